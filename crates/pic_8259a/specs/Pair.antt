@@ -14,6 +14,7 @@ use Rattle.pic_8259a.specs.declared.chip.Place.{Place}
 use Rattle.pic_8259a.specs.declared.chip.Place.TheVariants.{Slave, Master}
 use Rattle.pic_8259a.specs.declared.chip.PinOutcome.{PinOutcome}
 use Rattle.pic_8259a.specs.declared.pair.Pair.{Pair}
+use Rattle.pic_8259a.specs.declared.pair.AckedPins.{AckedPins}
 use Rattle.pic_8259a.specs.declared.ports.Port.{Port}
 use Rattle.pic_8259a.specs.declared.ports.Port.TheVariants.{MasterEven, MasterOdd, SlaveEven, SlaveOdd, MasterElcr, SlaveElcr}
 
@@ -111,31 +112,31 @@ read_from p port = read_by p (port_of port)
 pub record Cycle : Type 0 where
   pub after : Pair
   pub vector : ℕ
-  pub master : Option ℕ
-  pub slave : Option ℕ
+  pub pins : AckedPins
+
+abbrev pub acked_pins : Option ℕ → Option ℕ → AckedPins
+acked_pins master slave = record { master = master; slave = slave }
 
 -- the slave's part, by its top: without one the vector is that of its level 7 and the slave does not change
-abbrev pub slave_cycle : Pair → Option ℕ → Option ℕ → Cycle
-slave_cycle p pin None = record { after = p; vector = p.slave.base + 7; master = pin; slave = None }
-slave_cycle p pin (Some s) = record {
+abbrev pub slave_cycle : Option ℕ → Pair → Option ℕ → Cycle
+slave_cycle None p master = record { after = p; vector = p.slave.base + 7; pins = acked_pins master None }
+slave_cycle (Some s) p master = record {
   after = record p { slave = (acknowledged p.slave s).after };
   vector = p.slave.base + s;
-  master = pin;
-  slave = slave_pin (acknowledged p.slave s).pin;
+  pins = acked_pins master (slave_pin (acknowledged p.slave s).pin);
 }
 
 -- the cycle by the master's top: without one the vector is that of its level 7 and nothing changes; level 2 passes the
 -- cycle on to the slave
 abbrev pub cycle_by : Option ℕ → Pair → Cycle
-cycle_by None p = record { after = p; vector = p.master.base + 7; master = None; slave = None }
+cycle_by None p = record { after = p; vector = p.master.base + 7; pins = acked_pins None None }
 cycle_by (Some t) p =
     if nat_eq t 2
-    then slave_cycle (record p { master = (acknowledged p.master t).after }) (acknowledged p.master t).pin (top_of p.slave Slave)
+    then slave_cycle (top_of p.slave Slave) (record p { master = (acknowledged p.master t).after }) (acknowledged p.master t).pin
     else record {
       after = record p { master = (acknowledged p.master t).after };
       vector = p.master.base + t;
-      master = (acknowledged p.master t).pin;
-      slave = None;
+      pins = acked_pins (acknowledged p.master t).pin None;
     }
 
 abbrev pub cycle : Pair → Cycle

@@ -27,9 +27,9 @@ pub enum Expects {
 /// What came of a new level of a pin.
 #[derive(Clone, Copy, Debug, PartialEq, Eq)]
 pub enum PinOutcome {
-    /// The rise made a request that was not there before.
+    /// The pin was low and, for an edge pin, no earlier rise was latched.
     New,
-    /// The pin was high already, or its edge was latched already.
+    /// The pin was high already, or an earlier rise was latched already.
     Stood,
     /// The level is masked; an edge is latched all the same.
     Masked,

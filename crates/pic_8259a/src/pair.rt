@@ -143,8 +143,7 @@ impl Pair {
     pub fn inta(&mut self) -> (u8, AckedPins)
         ensures after { self.new ≡ (cycle self.old).after }
         ensures vector { result.0 ≡ (cycle self.old).vector }
-        ensures master { result.1.master ≡ (cycle self.old).master }
-        ensures slave { result.1.slave ≡ (cycle self.old).slave }
+        ensures pins { result.1 ≡ (cycle self.old).pins }
     {
         let spurious = Level::of(7);
         let Some(top) = self.master.top(self.place()) else {
