@@ -1,5 +1,6 @@
--- The numbers and words of the refusals, this board's own.
-use Rattle.std.specs.Prelude.{ℕ, List, codes}
+-- The numbers and words of the refusals, this board's own, and the first of several.
+use Rattle.std.specs.Prelude.{ℕ, Bool, List, [], ◌∷◌, codes, if◌then◌else◌, Some, None}
+use Rattle.std.specs.declared.option.Option.{Option}
 use Rattle.irq_base.specs.declared.refusal.Refusal.{Refusal}
 use Rattle.irq_base.specs.declared.refusal.Refusal.TheVariants.{NoGsi, NoCounter, BadRow, ChipTwice, Mixed, PinTwice, Busy, RoleClash, Full, Exists, NotThere, BadRange, ChipAddress, Over, BadCount, NoLine, BadMsi}
 
@@ -42,3 +43,12 @@ refusal_word Over = codes "over"
 refusal_word BadCount = codes "bad-count"
 refusal_word NoLine = codes "no-line"
 refusal_word BadMsi = codes "bad-msi"
+
+-- a refusal, and whether it holds
+abbrev pub Reason : Type 0
+Reason = Bool × Refusal
+
+-- the first refusal of the list that holds, or none
+abbrev pub first_of : List Reason → Option Refusal
+first_of [] = None
+first_of (reason ∷ reasons) = if reason.0 then Some reason.1 else first_of reasons
