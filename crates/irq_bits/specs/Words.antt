@@ -1,11 +1,11 @@
 -- A word as the set of the places of its ones, at any width: what the operations of words are to the sets.
-use Rattle.std.proofs.Common.{◌≡◌, ℕ, ◌*◌, ◌/◌, ◌%◌, ◌^◌, ◌<◌, ◌≤◌, false, nat_eq, bit_and, bit_or, sym, ap, ◌∙◌, arith}
+use Rattle.std.proofs.Common.{◌≡◌, ℕ, ◌*◌, ◌/◌, ◌%◌, ◌^◌, ◌<◌, ◌≤◌, false, nat_eq, bit_and, bit_or, sym, ap, subst, ◌∙◌, arith}
 use Rattle.std.proofs.lemmas.Bool.Decides.{nat_tests}
 use Rattle.std.proofs.lemmas.Nat.Bits.{shr_and_one}
 use Rattle.std.proofs.lemmas.Nat.{or_lt}
 use Rattle.std.specs.Int.{Width, bit_not, trailing_zeros, w64}
 use Rattle.std.specs.FinSet as set
-use Rattle.irq_bits.specs.Members.{is_set, members_of, word_of, IsLeast, IsGreatest}
+use Rattle.irq_bits.specs.Members.{Numbers, is_set, members_of, word_of, IsLeast, IsGreatest}
 use Rattle.irq_bits.specs.SetLemmas.{contains-set_below, contains-set_below_within, set_below-insert, set_below-remove, set_below-remove_outside, set_below-union, set_below-intersection, set_below-difference, set_below-empty, empty_passes, least_of, greatest_of}
 use Rattle.irq_bits.specs.WordLemmas.{is_set-zero, is_set-or, is_set-and, is_set-minus, is_set-insert, is_set-remove, zero_from_none, lowest_set, is_set_top, clear_above_top, is_set_within}
 use Rattle.irq_bits.specs.InverseLemmas.{word_given_back}
@@ -75,11 +75,11 @@ greatest_member size word k below low high = greatest_of size (is_set word) k be
 
 -- ---- the same at 64 bits, as rules
 
-pub cpu-least : (word : ℕ) → word < 2 ^ 64 → 0 < word → IsLeast (members_of 64 word) (trailing_zeros w64 word)
-cpu-least word fits some = least_member w64 word fits some
+pub cpu-least : (word : ℕ) (s : Numbers) → members_of 64 word ≡ s → word < 2 ^ 64 → 0 < word → IsLeast s (trailing_zeros w64 word)
+cpu-least word s view fits some = subst (λ (s : Numbers). IsLeast s (trailing_zeros w64 word)) view (least_member w64 word fits some)
 
-pub cpu-greatest : (word k : ℕ) → k < 64 → 2 ^ k ≤ word → word < 2 * 2 ^ k → IsGreatest (members_of 64 word) k
-cpu-greatest word k below low high = greatest_member 64 word k below low high
+pub cpu-greatest : (word k : ℕ) (s : Numbers) → members_of 64 word ≡ s → k < 64 → 2 ^ k ≤ word → word < 2 * 2 ^ k → IsGreatest s k
+cpu-greatest word k s view below low high = subst (λ (s : Numbers). IsGreatest s k) view (greatest_member 64 word k below low high)
 
 pub cpu-bit : (word n : ℕ) → word < 2 ^ 64 → is_set word n ≡ set.contains (members_of 64 word) n
 unfolding members_of

@@ -1,0 +1,4 @@
+pub mod Callers
+pub mod Counts
+pub mod Refusals
+pub mod Text

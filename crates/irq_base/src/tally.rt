@@ -1,0 +1,14 @@
+//! What counts signals.
+ghost use Rattle.std.specs.Prelude.{◌≡◌, ℕ, List, ◌<◌, length};
+ghost use Rattle.irq_base.specs.Counts.{signalled};
+
+/// Counters in the manner of eventfd, seen as a list of counts.
+pub trait Tally {
+    // The count of each counter.
+    ghost counts: { Self → List ℕ };
+
+    /// Adds one to the counter, which stops at 2^64 - 2 (eventfd(2), the greatest count).
+    fn signal(&mut self, c: u16)
+        requires { c < length (counts self.old) }
+        ensures { counts self.new ≡ signalled (counts self.old) c };
+}
