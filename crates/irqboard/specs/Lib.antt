@@ -4,3 +4,4 @@ pub mod Numbers
 pub mod Lines
 pub mod SmallForm
 pub mod Faults
+pub mod Transcript

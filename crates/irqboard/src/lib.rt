@@ -5,4 +5,5 @@ mod lines;
 mod numbers;
 mod reading;
 mod small_form;
+mod spelling;
 mod writing;
