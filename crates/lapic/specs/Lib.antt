@@ -1,0 +1,5 @@
+pub mod Registers
+pub mod Priority
+pub mod Messages
+pub mod Offsets
+pub mod Laws
