@@ -2,4 +2,8 @@
 #![tactic(auto)]
 
 #[cfg(test)]
+mod ioapic;
+#[cfg(test)]
 mod pic;
+#[cfg(test)]
+mod tables;

@@ -1,9 +1,9 @@
 -- What a write leaves does not hang on the bits that it cannot reach.
-use Rattle.std.proofs.Common.{◌≡◌, ℕ, ◌+◌, ◌-◌, ◌*◌, ◌/◌, ◌%◌, ◌^◌, ◌<◌, true, ◌&&◌, nat_eq, bit_and, refl, sym, ap, ◌∙◌, arith}
+use Rattle.std.proofs.Common.{◌≡◌, ℕ, ◌/◌, ◌%◌, ◌^◌, ◌<◌, true, ◌&&◌, bit_and, refl, ap, ◌∙◌, arith}
 use Rattle.std.proofs.lemmas.Nat.{and_mod, and_mask, and_shr}
 use Rattle.irq_bits.specs.Members.{is_set}
 use Rattle.irq_bits.specs.WordLemmas.{is_set-and}
-use Rattle.ioapic_82093aa.specs.Entries.{entry_of, settled, low_written, high_written}
+use Rattle.ioapic_82093aa.specs.Entries.{low_written}
 use Rattle.ioapic_82093aa.specs.declared.entry.Entry.{Entry}
 
 vector-masked : (value : ℕ) → bit_and value 0x0001afff % 2 ^ 8 ≡ value % 2 ^ 8

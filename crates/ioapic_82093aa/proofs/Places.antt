@@ -1,13 +1,13 @@
 -- The place of a register in the table tells its index and its writable bits.
-use Rattle.std.proofs.Common.{◌≡◌, ℕ, ◌+◌, ◌-◌, ◌<◌, ◌≤◌, zero, suc, Bool, true, ◌&&◌, nat_eq, nat_lt, if◌then◌else◌, length, List, Some, inl, inr, refl, sym, ap, subst, ◌∙◌, arith}
-use Rattle.std.proofs.lemmas.Bool.Decides.{nat_tests, leb_tells, Decides-eqb}
+use Rattle.std.proofs.Common.{◌≡◌, ℕ, ◌+◌, ◌<◌, zero, suc, Bool, true, ◌&&◌, nat_eq, nat_lt, if◌then◌else◌, length, Some, refl, sym, ap, subst, ◌∙◌, arith}
+use Rattle.std.proofs.lemmas.Bool.Decides.{nat_tests, Decides-eqb}
 use Rattle.std.specs.List.{slice_get}
 use Rattle.std.specs.Option.{IsSomeAnd}
 use Rattle.std.specs.declared.option.Option.{Option}
 use Rattle.reg_table.specs.declared.row.RegRow.{RegRow}
 use Rattle.reg_table.specs.Rows.{IsRowOf, each_passes_from}
 use Rattle.reg_table.proofs.Tables.{passes_at}
-use Rattle.ioapic_82093aa.specs.Registers.{register_rows, half_of, nth_register, register_of, writable_of}
+use Rattle.ioapic_82093aa.specs.Registers.{register_rows, nth_register, register_of, writable_of}
 
 -- the index of a place: the halves of the entries begin at 10h
 abbrev index_of : ℕ → ℕ

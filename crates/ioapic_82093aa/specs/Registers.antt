@@ -1,6 +1,6 @@
 -- The registers of the I/O APIC, by their index.
 -- 82093AA data sheet, IOREGSEL, IOWIN and the register map.
-use Rattle.std.specs.Prelude.{ℕ, ◌+◌, ◌-◌, ◌*◌, ◌/◌, ◌%◌, Bool, ◌&&◌, nat_eq, nat_lt, nat_le, if◌then◌else◌, List, [], ◌∷◌}
+use Rattle.std.specs.Prelude.{ℕ, ◌+◌, ◌-◌, ◌*◌, ◌/◌, ◌%◌, ◌&&◌, nat_eq, nat_lt, nat_le, if◌then◌else◌, List, [], ◌∷◌}
 use Rattle.reg_table.specs.declared.row.RegRow.{RegRow}
 use Rattle.ioapic_82093aa.specs.declared.registers.Register.{Register}
 use Rattle.ioapic_82093aa.specs.declared.registers.Register.TheVariants.{Identity, Version, Arbitration, LowHalf, HighHalf, Reserved}

@@ -1,7 +1,7 @@
 //! A redirection entry.
 ghost use Rattle.std.specs.Prelude.{◌≡◌, ℕ, ◌<◌, ◌%◌, ◌^◌};
 ghost use Rattle.irq_bits.specs.Members.{is_set};
-ghost use Rattle.ioapic_82093aa.specs.Entries.{entry_at_power_on, bit, low_word, high_word, low_written, high_written, mode_of, message_of};
+ghost use Rattle.ioapic_82093aa.specs.Entries.{entry_at_power_on, bit, low_word, high_word, settled, low_written, high_written, mode_of, message_of};
 
 use irq_base::{Message, Mode};
 use std::marker::Model;
@@ -130,6 +130,13 @@ impl Entry {
         (self.destination as u32) << 24
     }
 
+    /// Clears remote IRR of an entry that a write left edge-triggered.
+    fn settle(&mut self)
+        ensures { self.new ≡ settled self.old }
+    {
+        self.remote_irr = self.remote_irr && self.level;
+    }
+
     /// Writes the low half.
     pub fn write_low(&mut self, value: u32)
         ensures { self.new ≡ low_written self.old value }
@@ -140,7 +147,7 @@ impl Entry {
         self.active_low = has_bit(value, 13);
         self.level = has_bit(value, 15);
         self.masked = has_bit(value, 16);
-        self.remote_irr = self.remote_irr && self.level;
+        self.settle();
     }
 
     /// Writes the high half.
@@ -148,7 +155,7 @@ impl Entry {
         ensures { self.new ≡ high_written self.old value }
     {
         self.destination = (value >> 24) as u8;
-        self.remote_irr = self.remote_irr && self.level;
+        self.settle();
     }
 
     /// The message that the entry sends.

@@ -118,7 +118,11 @@ impl Ioapic {
         let was_high = self.high.has(pin);
         self.high.insert(pin);
         let entry = self.entries[pin.place()];
-        let stands = if entry.level { entry.remote_irr } else { was_high };
+        let stands = if entry.level {
+            entry.remote_irr
+        } else {
+            was_high
+        };
         if entry.masked {
             Raise::Masked
         } else if stands {
@@ -180,3 +184,9 @@ impl Ioapic {
         *self = *other;
     }
 }
+
+/// A law: how the two halves of an entry read tells the entry.
+#[tactic(auto, using(crate::proofs::Halves::words_tell_the_entry))]
+pub fn words_tell_the_entry()
+    ensures { WordsTellTheEntry }
+{}

@@ -11,4 +11,4 @@ mod ioapic;
 mod pins;
 mod registers;
 
-pub use ioapic::{Ioapic, Raise};
+pub use ioapic::{Ioapic, Raise, words_tell_the_entry};

@@ -1,8 +1,8 @@
-use Rattle.std.proofs.Common.{◌≡◌, ℕ, Some, List, sym, ap, subst, ◌∙◌}
+use Rattle.std.proofs.Common.{◌≡◌, Some, List, ap, subst, ◌∙◌}
 use Rattle.std.specs.List.{slice_get}
 use Rattle.reg_table.specs.declared.row.RegRow.{RegRow}
 use Rattle.reg_table.specs.Rows.{IsRowOf}
-use Rattle.ioapic_82093aa.specs.Registers.{nth_register, register_of, writable_of}
+use Rattle.ioapic_82093aa.specs.Registers.{writable_of}
 use Rattle.ioapic_82093aa.proofs.Places.{nth_register-found, writable-found}
 use Rattle.ioapic_82093aa.proofs.registers.register_at.Goals as goal
 
