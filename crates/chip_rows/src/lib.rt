@@ -3,3 +3,5 @@
 
 #[cfg(test)]
 mod pic;
+#[cfg(test)]
+mod types;
