@@ -18,7 +18,6 @@ fn set_of(numbers: &[u16]) -> CpuSet {
 
 #[test]
 fn spells_statuses_and_events(rt: HostRuntime) -> Result<(), Fail> {
-    let none = CpuSet::empty();
     let delivered = Status::Delivered {
         new: set_of(&[0, 63]),
         stood: set_of(&[4]),
@@ -28,13 +27,18 @@ fn spells_statuses_and_events(rt: HostRuntime) -> Result<(), Fail> {
         (delivered, "delivered new=8000000000000001 stood=10 pic=1"),
         (
             Status::Delivered {
-                new: none,
-                stood: none,
+                new: CpuSet::empty(),
+                stood: CpuSet::empty(),
                 pic: false,
             },
             "delivered new=0 stood=0 pic=0",
         ),
-        (Status::Coalesced { stood: none }, "coalesced stood=0"),
+        (
+            Status::Coalesced {
+                stood: CpuSet::empty(),
+            },
+            "coalesced stood=0",
+        ),
         (Status::Ignored(Cause::Masked), "ignored masked"),
         (Status::Ignored(Cause::Unrouted), "ignored unrouted"),
         (Status::Ignored(Cause::NoProcessor), "ignored no-processor"),
@@ -45,7 +49,6 @@ fn spells_statuses_and_events(rt: HostRuntime) -> Result<(), Fail> {
         let spelled = status.to_string(rt.alloc())?;
         assert_eq!(rt; spelled.as_str(), text);
     }
-    let lowered = Status::Lowered;
     for (event, text) in [
         (
             Event::Acked {
@@ -67,18 +70,18 @@ fn spells_statuses_and_events(rt: HostRuntime) -> Result<(), Fail> {
         (
             Event::Injected {
                 gsi: 4095,
-                status: lowered,
+                status: Status::Lowered,
             },
             "injected gsi 4095 lowered",
         ),
         (
             Event::Resent {
                 pin: 17,
-                status: lowered,
+                status: Status::Lowered,
             },
             "resent 17 lowered",
         ),
-        (Event::Ipi(lowered), "ipi lowered"),
+        (Event::Ipi(Status::Lowered), "ipi lowered"),
     ] {
         let spelled = event.to_string(rt.alloc())?;
         assert_eq!(rt; spelled.as_str(), text);
