@@ -1,0 +1,5 @@
+//! Tests of chips, registers, messages and registries: worked rows and scenarios of the public standards.
+#![tactic(auto)]
+
+#[cfg(test)]
+mod lapic;
