@@ -2,6 +2,8 @@
 #![tactic(auto)]
 
 #[cfg(test)]
+mod lapic;
+#[cfg(test)]
 mod pic;
 #[cfg(test)]
 mod types;
