@@ -1,0 +1,4 @@
+pub mod Entries
+pub mod Registers
+pub mod Pins
+pub mod Rules

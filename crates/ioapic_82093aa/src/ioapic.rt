@@ -1,0 +1,182 @@
+//! The chip.
+ghost use Rattle.std.specs.Prelude.{◌≡◌, ℕ, ◌<◌, IsTrue};
+ghost use Rattle.ioapic_82093aa.specs.Entries.{WordsTellTheEntry};
+ghost use Rattle.ioapic_82093aa.specs.Registers.{register_of};
+ghost use Rattle.ioapic_82093aa.specs.Pins.{ioapic_at_power_on, read_from, write_to, word_of_register, register_written, raised, raise_of, lowered, accepted, acknowledged, has_vector, resend_of};
+
+use crate::entry::Entry;
+use crate::pins::{PINS, Pin, Pins};
+use crate::registers::{Register, Selected, register_at};
+use irq_base::Message;
+
+/// The I/O APIC.
+#[derive(Clone, Copy)]
+pub struct Ioapic {
+    entries: [Entry; PINS],
+    high: Pins,
+    /// The index that IOREGSEL keeps.
+    selected: u8,
+    identity: u8,
+}
+
+/// What came of a raise.
+#[derive(Clone, Copy, Debug, PartialEq, Eq)]
+pub enum Raise {
+    /// The entry is masked.
+    Masked,
+    /// A request stands already: an edge whose pin was high, or a level with remote IRR.
+    Stood,
+    /// The message to send.
+    Send(Message),
+}
+
+impl Ioapic {
+    /// The chip at power-on: each entry masked, no pin high, all else 0.
+    pub fn power_on() -> Ioapic
+        ensures { result ≡ ioapic_at_power_on }
+    {
+        Ioapic {
+            entries: [Entry::power_on(); PINS],
+            high: Pins::none(),
+            selected: 0,
+            identity: 0,
+        }
+    }
+
+    /// What a register reads.
+    fn word(&self, register: Register) -> u32
+        ensures { result ≡ word_of_register self.now register }
+    {
+        match register {
+            Register::Identity | Register::Arbitration => (self.identity as u32) << 24,
+            Register::Version => 0x0017_0011,
+            Register::LowHalf(pin) => self.entries[pin.place()].low_word(),
+            Register::HighHalf(pin) => self.entries[pin.place()].high_word(),
+            Register::Reserved => 0,
+        }
+    }
+
+    /// Reads at an offset: 00h is IOREGSEL, 10h is IOWIN, the register that IOREGSEL selects; any other offset reads 0.
+    pub fn read(&self, offset: u8) -> u32
+        ensures { result ≡ read_from self.now offset }
+    {
+        match offset {
+            0x00 => self.selected as u32,
+            0x10 => self.word(register_at(self.selected).register),
+            _ => 0,
+        }
+    }
+
+    /// Writes the register that IOREGSEL selects, and gives the pin whose entry was written.
+    #[tactic(auto, using(crate::proofs::Masks::mask_rules))]
+    fn write_selected(&mut self, value: u32) -> Option<u8>
+        ensures after { self.new ≡ (register_written self.old (register_of self.old.selected) value).after }
+        ensures pin { result ≡ (register_written self.old (register_of self.old.selected) value).pin }
+    {
+        let Selected { register, writable } = register_at(self.selected);
+        let value = value & writable;
+        match register {
+            Register::Identity => {
+                self.identity = (value >> 24) as u8;
+                None
+            }
+            Register::LowHalf(pin) => {
+                self.entries[pin.place()].write_low(value);
+                Some(pin.number())
+            }
+            Register::HighHalf(pin) => {
+                self.entries[pin.place()].write_high(value);
+                Some(pin.number())
+            }
+            _ => None,
+        }
+    }
+
+    /// Writes at an offset: 00h is IOREGSEL, 10h is IOWIN; any other offset takes no write. Gives the pin, of 0 to 23,
+    /// whose entry was written.
+    pub fn write(&mut self, offset: u8, value: u32) -> Option<u8>
+        ensures after { self.new ≡ (write_to self.old offset value).after }
+        ensures pin { result ≡ (write_to self.old offset value).pin }
+    {
+        match offset {
+            0x00 => {
+                self.selected = (value % 0x100) as u8;
+                None
+            }
+            0x10 => self.write_selected(value),
+            _ => None,
+        }
+    }
+
+    /// Makes a pin, of 0 to 23, high.
+    pub fn raise(&mut self, pin: u8) -> Raise
+        requires { pin < 24 }
+        ensures after { self.new ≡ raised self.old pin }
+        ensures answer { result ≡ raise_of self.old pin }
+    {
+        let pin = Pin::of(pin);
+        let was_high = self.high.has(pin);
+        self.high.insert(pin);
+        let entry = self.entries[pin.place()];
+        let stands = if entry.level { entry.remote_irr } else { was_high };
+        if entry.masked {
+            Raise::Masked
+        } else if stands {
+            Raise::Stood
+        } else {
+            Raise::Send(entry.message())
+        }
+    }
+
+    /// Makes a pin, of 0 to 23, low.
+    pub fn lower(&mut self, pin: u8)
+        requires { pin < 24 }
+        ensures { self.new ≡ lowered self.old pin }
+    {
+        self.high.remove(Pin::of(pin));
+    }
+
+    /// The processors took the message of a pin, of 0 to 23: a level-triggered entry sets remote IRR.
+    pub fn accepted(&mut self, pin: u8)
+        requires { pin < 24 }
+        ensures { self.new ≡ accepted self.old pin }
+    {
+        let entry = &mut self.entries[pin as usize];
+        entry.remote_irr = entry.level || entry.remote_irr;
+    }
+
+    /// Whether the entry of a pin, of 0 to 23, has that vector, masked or not.
+    pub fn has_vector(&self, pin: u8, vector: u8) -> bool
+        requires { pin < 24 }
+        ensures { result ≡ has_vector self.now pin vector }
+    {
+        self.entries[pin as usize].vector == vector
+    }
+
+    /// The interrupt of a pin, of 0 to 23, has ended: remote IRR is cleared.
+    pub fn acked(&mut self, pin: u8)
+        requires { pin < 24 }
+        ensures { self.new ≡ acknowledged self.old pin }
+    {
+        self.entries[pin as usize].remote_irr = false;
+    }
+
+    /// The message of a pin, of 0 to 23, that is to be sent again: exactly where the pin is high, unmasked and
+    /// level-triggered and its remote IRR is clear.
+    pub fn resend(&self, pin: u8) -> Option<Message>
+        requires { pin < 24 }
+        ensures { result ≡ resend_of self.now pin }
+    {
+        let pin = Pin::of(pin);
+        let entry = self.entries[pin.place()];
+        let is_due = self.high.has(pin) && !entry.masked && entry.level && !entry.remote_irr;
+        if is_due { Some(entry.message()) } else { None }
+    }
+
+    /// Makes the chip equal to the other.
+    pub fn copy_from(&mut self, other: &Ioapic)
+        ensures { self.new ≡ other.now }
+    {
+        *self = *other;
+    }
+}
