@@ -4,6 +4,10 @@
 #[cfg(test)]
 mod ioapic;
 #[cfg(test)]
+mod lapic;
+#[cfg(test)]
 mod pic;
 #[cfg(test)]
 mod tables;
+#[cfg(test)]
+mod types;

@@ -1,10 +1,8 @@
 -- Digits one after another.
-use Rattle.std.proofs.Common.{◌≡◌, ℕ, suc, ◌+◌, ◌*◌, ◌/◌, ◌%◌, ◌^◌, ◌<◌, ◌≤◌, List, [], ◌∷◌, ◌++◌, Some, None, true, false, nat_eq, drop, length, get_or, drop-cons, refl, ap, sym, ◌∙◌, append_assoc, add-one, ◌-◌, if◌then◌else◌, lit<, arith}
-use Rattle.std.specs.declared.option.Option.{Option}
+use Rattle.std.proofs.Common.{◌≡◌, ℕ, suc, ◌+◌, ◌*◌, ◌/◌, ◌%◌, ◌^◌, ◌<◌, ◌≤◌, List, [], ◌∷◌, ◌++◌, true, false, nat_eq, drop, length, get_or, drop-cons, refl, ap, sym, ◌∙◌, append_assoc, add-one, ◌-◌, if◌then◌else◌, lit<, arith}
 use Rattle.std.specs.Prelude.{option_and_then}
 use Rattle.std.proofs.Math.Nat.{pow-le-pow_right}
 use Rattle.std.proofs.lemmas.Grind.{pow_more}
-use Rattle.std.proofs.lemmas.Bool.Decides.{nat_tests}
 use Rattle.std.proofs.lemmas.List.{append-nil}
 use Rattle.irqboard.specs.Numbers.{hex_digit, hex_digits, hex_places, hex_value, hex_from, decimal_value, decimal_from}
 

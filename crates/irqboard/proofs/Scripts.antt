@@ -1,10 +1,9 @@
 -- Lines one after another, and the calls of them.
 use Rattle.std.proofs.Common.{◌≡◌, ℕ, Bool, true, false, ◌&&◌, nat_eq, nat_lt, cond, Some, None, Ok, Err, take, ltb-true, ltb-false, refl, [], ◌+◌, ◌<◌, ◌≤◌, if◌then◌else◌, suc, List, ◌∷◌, ◌++◌, length, drop, codes, ap, sym, ◌∙◌, append_assoc, arith}
-use Rattle.std.specs.List.{position, position_or_len, slice_split, onto_first}
+use Rattle.std.specs.List.{position_or_len, slice_split, onto_first}
 use Rattle.std.specs.declared.option.Option.{Option}
 use Rattle.std.specs.declared.result.Result.{Result}
-use Rattle.std.proofs.lemmas.Bool.Decides.{nat_tests, Decides-eqb}
-use Rattle.std.proofs.lemmas.List.{append-nil}
+use Rattle.std.proofs.lemmas.Bool.Decides.{nat_tests}
 use Rattle.std.proofs.lemmas.List.Splits.{length-slice_split, slice_split_first, slice_split_none}
 use Rattle.std.proofs.lemmas.List.Sums.{fails_before_first}
 use Rattle.irq_base.specs.declared.call.Call.{Call}
@@ -78,7 +77,7 @@ pub is_nothing-bytes : (xs : List ℕ) → (is_empty (ended_lines xs) && is_ende
 is_nothing-bytes [] = refl
 is_nothing-bytes (x ∷ xs) =
     elim (nat_eq x 10) as (λ b. (is_empty (front_parts (cond b ([] ∷ slice_split (λ b. nat_eq b 10) xs) (onto_first x (slice_split (λ b. nat_eq b 10) xs))))
-      && is_empty (last_part (cond b ([] ∷ slice_split (λ b. nat_eq b 10) xs) (onto_first x (slice_split (λ b. nat_eq b 10) xs))))) ≡ nat_eq (suc (length xs)) 0) [
+    && is_empty (last_part (cond b ([] ∷ slice_split (λ b. nat_eq b 10) xs) (onto_first x (slice_split (λ b. nat_eq b 10) xs))))) ≡ nat_eq (suc (length xs)) 0) [
       | true ↦ more_behind _ (some_part xs) ∙ not_zero (length xs)
       | false ↦ first_longer x _ (some_part xs) ∙ not_zero (length xs)
     ]
@@ -94,7 +93,7 @@ put_call cs call n (Err m) = refl
 
 actors-step : (n : ℕ) (line : List ℕ) (lines : List (List ℕ)) (ended : Bool) →
     actors_from n (line ∷ lines) ended ≡ (if same_text line (codes "end") then (if is_empty lines && ended then Ok [] else Err (n + 1))
-      else if nat_lt 1000002 n then Err n else with_call n (call_of line) (actors_from (n + 1) lines ended))
+    else if nat_lt 1000002 n then Err n else with_call n (call_of line) (actors_from (n + 1) lines ended))
 unfolding actors_from
 actors-step n line lines ended = refl
 

@@ -3,7 +3,7 @@ use Rattle.std.specs.Prelude.{◌≡◌, ℕ, ◌<◌, ◌≤◌, List, length}
 use Rattle.std.specs.declared.option.Option.{Option}
 use Rattle.std.specs.Io.KnownBytes.{Consumes}
 use Rattle.irqboard.specs.declared.reading.Stop.{Stop}
-use Rattle.irqboard.specs.declared.reading.Stop.TheVariants.{Fault, Memory, TooLong}
+use Rattle.irqboard.specs.declared.reading.Stop.TheVariants.{TooLong}
 
 -- bytes were read, and their number is one of those told
 abbrev pub HasRead : Option (List ℕ) → Option (List ℕ) → (ℕ → Type 0) → Type 0

@@ -5,3 +5,5 @@ pub mod Lines
 pub mod SmallForm
 pub mod Faults
 pub mod Transcript
+pub mod Board
+pub mod Answers

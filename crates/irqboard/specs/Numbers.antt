@@ -1,5 +1,5 @@
 -- How numbers are spelled in scripts and transcripts: one spelling each, lower case, filled up with zeros to a width and no further.
-use Rattle.std.specs.Prelude.{ℕ, zero, suc, ◌+◌, ◌-◌, ◌*◌, ◌/◌, ◌%◌, ◌^◌, max, min, Bool, not, ◌&&◌, ◌||◌, nat_eq, nat_lt, nat_le, List, [], ◌∷◌, length, slice_index, Some, None, if◌then◌else◌, option_and_then}
+use Rattle.std.specs.Prelude.{ℕ, zero, suc, ◌+◌, ◌-◌, ◌*◌, ◌/◌, ◌%◌, ◌^◌, max, min, ◌&&◌, ◌||◌, nat_eq, nat_lt, nat_le, List, [], ◌∷◌, length, slice_index, Some, None, if◌then◌else◌, option_and_then}
 use Rattle.std.specs.declared.option.Option.{Option}
 
 -- the digit of a value below 16

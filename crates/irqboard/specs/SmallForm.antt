@@ -3,7 +3,7 @@ use Rattle.std.specs.Prelude.{ℕ, ◌+◌, ◌^◌, Bool, true, false, ◌&&◌
 use Rattle.std.specs.declared.option.Option.{Option}
 use Rattle.std.specs.declared.result.Result.{Result}
 use Rattle.irq_base.specs.declared.call.Call.{Call}
-use Rattle.irq_base.specs.declared.call.Call.TheVariants.{Msi, Store, Ack, Inta, Eoi}
+use Rattle.irq_base.specs.declared.call.Call.TheVariants.{Msi, Store, Ack, Eoi}
 use Rattle.irqboard.specs.Lines.{same_text, is_empty, cut_at, two_words, three_words, ended_lines, is_ended}
 use Rattle.irqboard.specs.Numbers.{read_hex, read_byte, value_width}
 

@@ -1,5 +1,5 @@
 //! The small form of scripts.
-ghost use Rattle.std.specs.Prelude.{◌≡◌, ◌<◌, ◌≤◌, IfOk, IfErr, Ok, Err};
+ghost use Rattle.std.specs.Prelude.{◌≡◌, ◌<◌, ◌≤◌, All, length, IsTrue, IfSome, IfOk, IfErr, Ok, Err};
 ghost use Rattle.irqboard.specs.Lines.{cut_at, ended_lines, is_ended, two_words, three_words};
 ghost use Rattle.irqboard.specs.SmallForm.{is_built, msi_call, store_call, numbered_call, bare_call, command_call, actor_call, call_of, actors_from, script_of};
 ghost use Rattle.irqboard.specs.Faults.{SaysBad};
@@ -13,9 +13,7 @@ use std::alloc::Global;
 #[derive(Clone, Copy, Debug, PartialEq, Eq)]
 pub enum ScriptFault {
     /// The first line outside the form, from 1.
-    BadLine {
-        line: u32,
-    },
+    BadLine { line: u32 },
     NoMemory,
 }
 
@@ -124,7 +122,8 @@ fn actor_call(line: &[u8]) -> Option<Call>
 
 /// The call of an actor line of the small form.
 pub fn call_of(line: &[u8]) -> Option<Call>
-    ensures { result ≡ call_of line.now }
+    ensures call { result ≡ call_of line.now }
+    ensures built { IfSome result (λ call. IsTrue (is_built call)) }
 {
     let call = actor_call(line)?;
     if is_built(&call) { Some(call) } else { None }
@@ -133,6 +132,8 @@ pub fn call_of(line: &[u8]) -> Option<Call>
 // The calls of the actor lines and `end`, which begin at line 3.
 fn actors(alloc: Global, bytes: &[u8]) -> Result<Vec<Call>, ScriptFault>
     ensures found { IfOk result (λ v. actors_from 3 (ended_lines bytes.now) (is_ended bytes.now) ≡ Ok v.items) }
+    ensures built { IfOk result (λ v. All (λ call. IsTrue (is_built call)) v.items) }
+    ensures few { IfOk result (λ v. length v.items ≤ 1000000) }
     ensures bad { IfErr result (SaysBad (actors_from 3 (ended_lines bytes.now) (is_ended bytes.now))) }
 {
     let mut calls = Vec::new(alloc);
@@ -165,6 +166,8 @@ fn actors(alloc: Global, bytes: &[u8]) -> Result<Vec<Call>, ScriptFault>
 #[tactic(auto, using(crate::proofs::Scripts::line_rules))]
 pub fn parse(alloc: Global, bytes: &[u8]) -> Result<Vec<Call>, ScriptFault>
     ensures found { IfOk result (λ v. script_of bytes.now ≡ Ok v.items) }
+    ensures built { IfOk result (λ v. All (λ call. IsTrue (is_built call)) v.items) }
+    ensures few { IfOk result (λ v. length v.items ≤ 1000000) }
     ensures bad { IfErr result (SaysBad (script_of bytes.now)) }
 {
     let Some((version, lines)) = cut(bytes, b'\n') else {

@@ -10,12 +10,7 @@ use std::alloc::{AllocError, Global};
 use std::fmt::Write;
 
 // Puts the label and the value at the end of the text.
-fn push_labelled(
-    text: &mut String,
-    label: &str,
-    value: u64,
-    width: u32,
-) -> Result<(), AllocError>
+fn push_labelled(text: &mut String, label: &str, value: u64, width: u32) -> Result<(), AllocError>
     requires { width ≤ 16 }
     ensures { OnOk result (string_bytes text.new ≡ string_bytes text.old ++ (label.now ++ hex_text width value)) }
 {

@@ -2,7 +2,7 @@
 use Rattle.std.specs.Prelude.{ℕ, ◌*◌, ◌/◌, nat_lt, nat_le, if◌then◌else◌, Some, None}
 use Rattle.std.specs.declared.option.Option.{Option}
 use Rattle.std.specs.FinSet as set
-use Rattle.irq_bits.specs.Members.{greatest_vector}
+use Rattle.irq_bits.specs.Members.{Numbers, greatest_vector}
 use Rattle.lapic.specs.Registers.{LocalApic}
 
 -- the priority class of a vector, or of a priority
@@ -19,9 +19,13 @@ priority_over tpr (Some vector) = if nat_le (class_of vector) (class_of tpr) the
 abbrev pub ppr_of : LocalApic → ℕ
 ppr_of a = priority_over a.registers.tpr (greatest_vector a.isr)
 
+-- the greatest vector whose class exceeds that of a priority, or none
+unfoldable pub greatest_above : Numbers → ℕ → Option ℕ
+greatest_above vectors priority = greatest_vector (set.retain vectors (λ vector. nat_lt (class_of priority) (class_of vector)))
+
 -- the greatest request whose class exceeds that of PPR, or none
 abbrev pub giveable_of : LocalApic → Option ℕ
-giveable_of a = greatest_vector (set.retain a.irr (λ vector. nat_lt (class_of (ppr_of a)) (class_of vector)))
+giveable_of a = greatest_above a.irr (ppr_of a)
 
 -- a vector goes from the requests into service
 abbrev pub given : LocalApic → Option ℕ → LocalApic

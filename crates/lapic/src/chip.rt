@@ -3,7 +3,7 @@ ghost use Rattle.std.specs.Prelude.{◌≡◌, ℕ, ◌<◌, false, IsTrue};
 ghost use Rattle.std.specs.FinSet as set;
 ghost use Rattle.irq_bits.specs.Members.{greatest_vector};
 ghost use Rattle.lapic.specs.Registers.{power_on, row_for, is_there, is_enabled};
-ghost use Rattle.lapic.specs.Priority.{ppr_of, giveable_of, given, ended};
+ghost use Rattle.lapic.specs.Priority.{ppr_of, greatest_above, giveable_of, given, ended};
 ghost use Rattle.lapic.specs.Messages.{is_taken, answer_to, accepted, dest_view, with_request, ipi_of, mode_of, shorthand_of};
 ghost use Rattle.lapic.specs.Offsets.{value_of, stored, effect_of, load_of, store_to, store_effect};
 
@@ -16,6 +16,11 @@ use std::marker::Model;
 
 // The bit of ESR that tells of a message with an illegal vector.
 const RECEIVED_ILLEGAL_VECTOR: u32 = 1 << 6;
+
+// Local vector entries: one of mode ExtINT, which passes on the 8259A, and a masked one.
+const EXTINT: u32 = 0b111 << 8;
+
+const MASKED: u32 = 1 << 16;
 
 // The registers that are written. `errors` are recorded for ESR until it is written.
 #[derive(Clone, Copy)]
@@ -78,6 +83,7 @@ impl Lapic {
         requires { number < 256 }
         ensures { result ≡ power_on number }
     {
+        let lint0 = if number == 0 { EXTINT } else { MASKED };
         Lapic {
             number: number as u8,
             irr: Set256::empty(),
@@ -93,12 +99,8 @@ impl Lapic {
                 errors: 0,
                 icr_low: 0,
                 icr_high: 0,
-                lint0: if number == 0 {
-                    0x0000_0700
-                } else {
-                    0x0001_0000
-                },
-                lint1: 0x0001_0000,
+                lint0,
+                lint1: MASKED,
             },
         }
     }
@@ -182,11 +184,7 @@ impl Lapic {
         ensures vector { result ≡ giveable_of self.old }
         ensures after { self.new ≡ given self.old result }
     {
-        let priority = self.ppr();
-        let vector = self.irr.greatest()?;
-        if vector / 16 <= priority / 16 {
-            return None;
-        }
+        let vector = greatest_above(&self.irr, self.ppr())?;
         self.irr.remove(vector);
         self.isr.insert(vector);
         Some(vector)
@@ -307,6 +305,19 @@ impl Lapic {
         self.tmr.copy_from(&other.tmr);
         self.nmi = other.nmi;
         self.registers = other.registers;
+    }
+}
+
+// The greatest vector whose class is above that of a priority.
+#[tactic(auto, using(crate::proofs::Classes::priority_rules))]
+fn greatest_above(vectors: &Set256, priority: u8) -> Option<u8>
+    ensures { result ≡ greatest_above vectors.now priority }
+{
+    let vector = vectors.greatest()?;
+    if vector / 16 > priority / 16 {
+        Some(vector)
+    } else {
+        None
     }
 }
 

@@ -1,4 +1,4 @@
-use Rattle.std.proofs.Common.{◌≡◌, ◌*◌, ◌^◌, ◌<◌, drop}
+use Rattle.std.proofs.Common.{◌≡◌, ◌^◌, ◌<◌, drop}
 use Rattle.irqboard.specs.Numbers.{decimal_from}
 use Rattle.irqboard.proofs.numbers.decimal_number.Given as goal
 

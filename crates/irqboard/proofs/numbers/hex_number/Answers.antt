@@ -1,4 +1,4 @@
-use Rattle.std.proofs.Common.{◌≡◌, ◌^◌, ◌+◌, ◌*◌, ◌<◌, length, get_or, drop, Some, ap, sym, ◌∙◌, arith}
+use Rattle.std.proofs.Common.{◌≡◌, ◌+◌, ◌*◌, ◌<◌, length, get_or, drop, Some, ap, sym, ◌∙◌, arith}
 use Rattle.std.specs.Prelude.{option_and_then}
 use Rattle.irqboard.specs.Numbers.{hex_from, hex_value}
 use Rattle.irqboard.proofs.Digits.{hex_fits, hex_bound, hex_from-step}
@@ -24,5 +24,5 @@ loop-digit-preserved c =
     let is : hex_value (get_or digits i 0) ≡ Some c.from.result = cc (c.in_ok-hex_value.ensures.value, c.from.ensures) in (
       hex_bound i c.loop-digit.number c.from.result c.loop-digit.invariant.0 digit,
       sym (hex_from-step digits i c.loop-digit.number 0 below ∙ ap (option_and_then (λ v. hex_from (16 * c.loop-digit.number + v) (drop (i + 1) digits))) is)
-      ∙ c.loop-digit.invariant.1,
+          ∙ c.loop-digit.invariant.1,
     )

@@ -1,4 +1,4 @@
-use Rattle.std.proofs.Common.{◌≡◌, ◌*◌, ◌^◌, ◌<◌, drop}
+use Rattle.std.proofs.Common.{◌≡◌, ◌^◌, ◌<◌, drop}
 use Rattle.irqboard.specs.Numbers.{hex_from}
 use Rattle.irqboard.proofs.numbers.hex_number.Given as goal
 

@@ -1,4 +1,4 @@
-use Rattle.std.proofs.Common.{◌+◌, ◌<◌, ◌≤◌, length, arith}
+use Rattle.std.proofs.Common.{◌<◌, length, arith}
 use Rattle.irqboard.proofs.Parts.{Appends-front, some_left, within_rest}
 use Rattle.irqboard.proofs.writing.write_whole.Goals as goal
 
