@@ -1,7 +1,7 @@
 -- Where the offsets are distinct, the first row of an offset is the only one.
-use Rattle.std.proofs.Common.{◌≡◌, ℕ, ◌<◌, ◌↔◌, zero, suc, true, ◌==◌, inl, inr, List, [], ◌∷◌, length, Some, ◌≢◌, MatchOption, true≢false, ap, subst, ◌∙◌, arith}
+use Rattle.std.proofs.Common.{◌≡◌, ℕ, ◌<◌, ◌↔◌, zero, suc, true, ◌==◌, inl, inr, List, [], ◌∷◌, length, Some, IfSome, true≢false, ap, subst, ◌∙◌, arith}
 use Rattle.std.proofs.lemmas.Bool.Decides.{nat_tests, eqb_tells}
-use Rattle.std.specs.List.{All, list_any, position, position_or_len}
+use Rattle.std.specs.List.{list_any, position, position_or_len}
 use Rattle.std.specs.declared.option.Option.{Option}
 use Rattle.reg_table.specs.declared.row.RegRow.{RegRow}
 use Rattle.reg_table.specs.Rows.{are_distinct, IsRowOf}
@@ -23,8 +23,8 @@ first_at (r ∷ rows) offset (suc k) distinct found =
     ]
 
 -- the row that a look-up finds, exactly
-pub found_exactly : (rows : List RegRow) (offset : ℕ) (found : Option ℕ) → are_distinct rows ≡ true → found ≡ position (λ row. row.offset == offset) rows → MatchOption found (All (λ row. row.offset ≢ offset) rows) (IsRowOf rows offset) → (k : ℕ) → (found ≡ Some k) ↔ IsRowOf rows offset k
+pub found_exactly : (rows : List RegRow) (offset : ℕ) (found : Option ℕ) → are_distinct rows ≡ true → found ≡ position (λ row. row.offset == offset) rows → IfSome found (IsRowOf rows offset) → (k : ℕ) → (found ≡ Some k) ↔ IsRowOf rows offset k
 found_exactly rows offset found distinct first meets k = (
-  λ e. subst (λ o. MatchOption o (All (λ row. row.offset ≢ offset) rows) (IsRowOf rows offset)) e meets,
+  λ e. subst (λ o. IfSome o (IsRowOf rows offset)) e meets,
   λ row. let at = first_at rows offset k distinct row in first ∙ grind (arith, nat_tests),
 )
