@@ -27,15 +27,15 @@ nth_register k = if nat_eq k 0 then Identity else if nat_eq k 1 then Version els
 abbrev pub row : ℕ → ℕ → ℕ → ℕ → RegRow
 row offset readable writable reset = record { offset = offset; readable = readable; writable = writable; reset = reset }
 
--- both halves of entry n
-abbrev pub with_entry : ℕ → List RegRow → List RegRow
-with_entry n rows = row (0x10 + 2 * n) 0x0001efff 0x0001afff 0x00010000 ∷ row (0x11 + 2 * n) 0xff000000 0xff000000 0 ∷ rows
+-- the rows of both halves of entry n, and then these
+abbrev pub with_halves : ℕ → List RegRow → List RegRow
+with_halves n rows = row (0x10 + 2 * n) 0x0001efff 0x0001afff 0x00010000 ∷ row (0x11 + 2 * n) 0xff000000 0xff000000 0 ∷ rows
 
 abbrev pub entry_rows : List RegRow
 entry_rows =
-    with_entry 0 (with_entry 1 (with_entry 2 (with_entry 3 (with_entry 4 (with_entry 5 (with_entry 6 (with_entry 7
-    (with_entry 8 (with_entry 9 (with_entry 10 (with_entry 11 (with_entry 12 (with_entry 13 (with_entry 14 (with_entry 15
-    (with_entry 16 (with_entry 17 (with_entry 18 (with_entry 19 (with_entry 20 (with_entry 21 (with_entry 22 (with_entry 23 []
+    with_halves 0 (with_halves 1 (with_halves 2 (with_halves 3 (with_halves 4 (with_halves 5 (with_halves 6 (with_halves 7
+    (with_halves 8 (with_halves 9 (with_halves 10 (with_halves 11 (with_halves 12 (with_halves 13 (with_halves 14 (with_halves 15
+    (with_halves 16 (with_halves 17 (with_halves 18 (with_halves 19 (with_halves 20 (with_halves 21 (with_halves 22 (with_halves 23 []
     )))))))))))))))))))))))
 
 abbrev pub register_rows : List RegRow

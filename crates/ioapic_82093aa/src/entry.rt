@@ -77,7 +77,7 @@ pub struct Entry {
 }
 
 /// Whether bit n of a word is set.
-#[tactic(auto, using(crate::specs::Rules::bit_rules))]
+#[tactic(auto, using(std::proofs::lemmas::Nat::Bits::shr_and_one))]
 fn has_bit(word: u32, n: u8) -> bool
     requires { n < 32 }
     ensures { result ≡ is_set word n }

@@ -1,9 +1,8 @@
 -- What the operations of bytes are to sets of levels: the laws of words at eight bits.
-use Rattle.std.proofs.Common.{◌≡◌, ℕ, ◌*◌, ◌/◌, ◌%◌, ◌^◌, ◌<◌, nat_eq, bit_and, bit_or, sym, ap}
-use Rattle.std.proofs.lemmas.Nat.Bits.{shr_and_one}
+use Rattle.std.proofs.Common.{◌≡◌, ℕ, ◌*◌, ◌/◌, ◌%◌, ◌^◌, ◌<◌, nat_eq, bit_and, bit_or}
 use Rattle.std.specs.Int.{w8, bit_not}
 use Rattle.std.specs.FinSet as set
-use Rattle.irq_bits.specs.Members.{is_set, members_of, word_of}
+use Rattle.irq_bits.specs.Members.{members_of, word_of}
 use Rattle.irq_bits.specs.Words.{members_of-test, members_of-zero, members_of-or, members_of-and, members_of-minus, members_of-insert, members_of-remove, members_of-word}
 
 pub level-test : (byte k : ℕ) → k < 8 → set.contains (members_of 8 byte) k ≡ nat_eq (bit_and (byte / 2 ^ k) 1) 1
@@ -30,10 +29,4 @@ level-remove byte k below = members_of-remove w8 byte k below
 pub level-byte : (byte : ℕ) → byte < 2 ^ 8 → word_of 8 (members_of 8 byte) ≡ byte
 level-byte byte fits = members_of-word 8 byte fits
 
--- `byte >> k & 1 == 1`
-pub bit-test : (byte k : ℕ) → is_set byte k ≡ nat_eq (bit_and (byte / 2 ^ k) 1) 1
-bit-test byte k = ap (λ b. nat_eq b 1) (sym (shr_and_one byte k))
-
 pub ruleset level_rules = (level-test, level-empty, level-union, level-intersection, level-difference, level-insert, level-remove, level-byte)
-
-pub ruleset bit_rules = (bit-test)

@@ -108,7 +108,7 @@ pub struct Chip {
 }
 
 /// Whether bit n of a byte is set.
-#[tactic(auto, using(crate::specs::Rules::bit_rules))]
+#[tactic(auto, using(std::proofs::lemmas::Nat::Bits::shr_and_one))]
 fn has_bit(byte: u8, n: u8) -> bool
     requires { n < 8 }
     ensures { result ≡ is_set byte n }
