@@ -3,3 +3,5 @@
 
 #[cfg(test)]
 mod lapic;
+#[cfg(test)]
+mod messages;
