@@ -1,0 +1,41 @@
+//! Runs of the top call over ends in memory.
+use io_edge::{MemSink, MemSource, OpenGate, Word};
+use irqboard::{Outcome, irqboard};
+use std::alloc::{AllocError, Global};
+
+/// Row by row the script of the first transcript, and that transcript.
+pub const FIRST_SCRIPT: &str =
+    "irqboard 1\ncpus 1\ncpu0 store fee000f0 4 000001ff\ncpu0 msi fee00000 00000041\ncpu0 ack\ncpu0 eoi\nend\n";
+
+pub const FIRST_TRANSCRIPT: &str =
+    "transcript 1\n0 cpu0 store fee000f0 4 000001ff -> done\n1 cpu0 msi fee00000 00000041 -> delivered new=1 stood=0 pic=0\n2 cpu0 ack -> vector 41\n3 cpu0 eoi -> ended 41\nend 4\n";
+
+/// The words of a command line, which spaces part here.
+pub fn words(alloc: Global, line: &str) -> Result<Vec<Word>, AllocError> {
+    let mut words = Vec::new(alloc);
+    for text in line.split_whitespace() {
+        words.push(Word::of(String::from_str(alloc, text)?))?;
+    }
+    Ok(words)
+}
+
+/// Asks the top call for these words over these ends.
+pub fn ask(
+    alloc: Global,
+    line: &str,
+    source: &mut MemSource,
+    sink: &mut MemSink,
+) -> Result<Outcome, AllocError> {
+    let words = words(alloc, line)?;
+    Ok(irqboard(alloc, words.as_slice(), source, sink, &OpenGate))
+}
+
+/// Replays the input, and gives the answer, and all that was written.
+pub fn replayed(alloc: Global, input: Vec<u8>) -> Result<(Outcome, MemSink), AllocError> {
+    let mut source = MemSource::of(input, 4096, Vec::new(alloc));
+    let Ok(mut sink) = MemSink::of(alloc, 1 << 20, 4096, Vec::new(alloc)) else {
+        return Err(AllocError);
+    };
+    let outcome = ask(alloc, "replay", &mut source, &mut sink)?;
+    Ok((outcome, sink))
+}

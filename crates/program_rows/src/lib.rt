@@ -1,0 +1,9 @@
+//! Tests of the program: texts in and out of the top call.
+#![tactic(auto)]
+
+#[cfg(test)]
+mod edges;
+#[cfg(test)]
+mod ends;
+#[cfg(test)]
+mod replays;

@@ -1,0 +1,100 @@
+//! Scripts with their transcripts, and scripts that are outside the form.
+use crate::ends::{FIRST_SCRIPT, FIRST_TRANSCRIPT, replayed};
+use irq_base::LineCause;
+use irqboard::Outcome;
+use std::test::Fail;
+
+// The entries of a transcript as `caller call -> reply`, and no events.
+const NOT_ENABLED: [&str; 3] = [
+    "cpu0 msi fee00000 00000041 -> ignored no-processor",
+    "cpu0 ack -> nothing",
+    "cpu0 eoi -> nothing",
+];
+
+const MERGED: [&str; 5] = [
+    "cpu0 store fee000f0 4 000001ff -> done",
+    "cpu0 msi fee00000 00000041 -> delivered new=1 stood=0 pic=0",
+    "cpu0 msi fee00000 00000041 -> coalesced stood=1",
+    "cpu0 ack -> vector 41",
+    "cpu0 ack -> nothing",
+];
+
+const ILLEGAL_VECTOR: [&str; 4] = [
+    "cpu0 store fee000f0 4 000001ff -> done",
+    "cpu0 msi fee00000 0000000f -> ignored bad-vector",
+    "cpu0 ack -> nothing",
+    "cpu0 eoi -> nothing",
+];
+
+// Replays the left halves of the entries, and tells whether the transcript is those entries with their places.
+fn is_answered(rt: &HostRuntime, entries: &[&str]) -> Result<bool, Fail> {
+    let alloc = rt.alloc();
+    let mut script = String::from_str(alloc, "irqboard 1\ncpus 1\n")?;
+    let mut transcript = String::from_str(alloc, "transcript 1\n")?;
+    for (place, entry) in entries.iter().enumerate() {
+        let (call, _) = entry.split_once(" -> ").ok_or("no reply")?;
+        write!(script, "{call}\n")?;
+        write!(transcript, "{place} {entry}\n")?;
+    }
+    script.push_str("end\n")?;
+    let count = entries.len();
+    write!(transcript, "end {count}\n")?;
+    let (outcome, sink) = replayed(alloc, script.into_bytes())?;
+    Ok(outcome == Outcome::Fine && sink.bytes() == transcript.as_bytes())
+}
+
+#[test]
+fn scripts_have_their_transcripts(rt: HostRuntime) -> Result<(), Fail> {
+    let (outcome, sink) = replayed(rt.alloc(), FIRST_SCRIPT.as_bytes().to_vec(rt.alloc())?)?;
+    assert_eq!(rt; outcome, Outcome::Fine);
+    assert_eq!(rt; sink.bytes(), FIRST_TRANSCRIPT.as_bytes());
+    assert!(rt; is_answered(&rt, &NOT_ENABLED)?);
+    assert!(rt; is_answered(&rt, &MERGED)?);
+    assert!(rt; is_answered(&rt, &ILLEGAL_VECTOR)?);
+    Ok(())
+}
+
+// Scripts, each with the first line that is outside the form.
+const BAD_SCRIPTS: [(&str, u32); 24] = [
+    ("", 1),
+    ("irqboard 1", 1),
+    ("irqboard 2\ncpus 1\nend\n", 1),
+    ("\nirqboard 1\ncpus 1\nend\n", 1),
+    ("irqboard 1\n", 2),
+    ("irqboard 1\ncpus 2\nend\n", 2),
+    ("irqboard 1\ncpus 01\nend\n", 2),
+    ("irqboard 1\ncpus 1\n", 3),
+    ("irqboard 1\ncpus 1\nend", 3),
+    (
+        "irqboard 1\ncpus 1\ncpu0 tick\ncpu0 store fee000f0 4 000001ff\ncpu0 msi fee00000 00000041\ncpu0 ack\ncpu0 eoi\nend\n",
+        3,
+    ),
+    ("irqboard 1\ncpus 1\ncpu0 ac", 3),
+    ("irqboard 1\ncpus 1\ndev0 ack\nend\n", 3),
+    ("irqboard 1\ncpus 1\ncpu0 ack \nend\n", 3),
+    ("irqboard 1\ncpus 1\ncpu0 msi fee00000 0000004A\nend\n", 3),
+    ("irqboard 1\ncpus 1\ncpu0 msi fee00000 00000141\nend\n", 3),
+    ("irqboard 1\ncpus 1\ncpu0 msi fee00000 000000041\nend\n", 3),
+    ("irqboard 1\ncpus 1\ncpu0 msi fee01000 00000041\nend\n", 3),
+    ("irqboard 1\ncpus 1\ncpu0 store fee000f0 4 1ff\nend\n", 3),
+    (
+        "irqboard 1\ncpus 1\ncpu0 store fee000f0 04 000001ff\nend\n",
+        3,
+    ),
+    ("irqboard 1\ncpus 1\ncpu0 ack\n\nend\n", 4),
+    ("irqboard 1\ncpus 1\ncpu0 ack\n", 4),
+    ("irqboard 1\ncpus 1\nend\ncpu0 ack\n", 4),
+    ("irqboard 1\ncpus 1\nend\nx", 4),
+    ("irqboard 1\ncpus 1\ncpu0 ack\ncpu0 eoi\nEND\n", 5),
+];
+
+#[test]
+fn the_first_bad_line_is_named(rt: HostRuntime) -> Result<(), Fail> {
+    for (script, line) in BAD_SCRIPTS {
+        let (outcome, sink) = replayed(rt.alloc(), script.as_bytes().to_vec(rt.alloc())?)?;
+        let cause = LineCause::Unbuilt;
+        assert_eq!(rt; outcome, Outcome::BadInput { line, cause }, "{script}");
+        assert!(rt; sink.bytes().is_empty(), "{script}");
+    }
+    Ok(())
+}
