@@ -60,7 +60,9 @@ abbrev pub rotated : Effect Chip → Option ℕ → Effect Chip
 rotated e None = e
 rotated e (Some n) = record { after = record e.after { lowest = n }; pin = e.pin }
 
--- OCW2 by its bits 7 to 5 and the level of its bits 2 to 0
+-- OCW2 by its bits 7 to 5 and the level of its bits 2 to 0: 001 is the non-specific end of interrupt, 011 the specific one,
+-- 101 and 111 are the same and rotate, 100 and 000 turn rotation in automatic EOI on and off, 110 sets the lowest level, and
+-- 010 is nothing
 abbrev pub commanded_by : ℕ → ℕ → Chip → Effect Chip
 commanded_by command level c =
     if nat_eq command 1 then ended c (highest_in_service c)
