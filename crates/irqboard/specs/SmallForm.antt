@@ -3,7 +3,7 @@ use Rattle.std.specs.Prelude.{ℕ, ◌+◌, ◌^◌, Bool, true, false, ◌&&◌
 use Rattle.std.specs.declared.option.Option.{Option}
 use Rattle.std.specs.declared.result.Result.{Result}
 use Rattle.irq_base.specs.declared.call.Call.{Call}
-use Rattle.irq_base.specs.declared.call.Call.TheVariants.{Msi, Store, Ack, Eoi}
+use Rattle.irq_base.specs.declared.call.Call.TheVariants.{Msi, PortOut, PortIn, Store, Ack, Inta, Eoi}
 use Rattle.irqboard.specs.Lines.{same_text, is_empty, cut_at, two_words, three_words, ended_lines, is_ended}
 use Rattle.irqboard.specs.Numbers.{read_hex, read_byte, value_width}
 
@@ -11,7 +11,10 @@ use Rattle.irqboard.specs.Numbers.{read_hex, read_byte, value_width}
 abbrev pub is_built : Call → Bool
 is_built (Msi address payload) = nat_eq address 0xfee00000 && nat_lt payload 256
 is_built (Store address len value) = nat_eq address 0xfee000f0 && (nat_eq len 4 && nat_eq value 0x1ff)
+is_built (PortOut port len value) = true
+is_built (PortIn port len) = true
 is_built Ack = true
+is_built Inta = true
 is_built Eoi = true
 is_built _ = false
 
@@ -43,17 +46,38 @@ abbrev pub store_call : Option (List ℕ × List ℕ × List ℕ) → Option Cal
 store_call None = None
 store_call (Some words) = store_of (read_hex 8 words.0) (read_byte words.1) (read_value (read_byte words.1) words.2)
 
+abbrev pub out_of : Option ℕ → Option ℕ → Option ℕ → Option Call
+out_of (Some port) (Some len) (Some value) = Some (PortOut port len value)
+out_of _ _ _ = None
+
+-- `PORT LEN VALUE`
+abbrev pub out_call : Option (List ℕ × List ℕ × List ℕ) → Option Call
+out_call None = None
+out_call (Some words) = out_of (within 16 (read_hex 4 words.0)) (read_byte words.1) (within 32 (read_value (read_byte words.1) words.2))
+
+abbrev pub in_of : Option ℕ → Option ℕ → Option Call
+in_of (Some port) (Some len) = Some (PortIn port len)
+in_of _ _ = None
+
+-- `PORT LEN`
+abbrev pub in_call : Option (List ℕ × List ℕ) → Option Call
+in_call None = None
+in_call (Some words) = in_of (within 16 (read_hex 4 words.0)) (read_byte words.1)
+
 -- a command with numbers behind it
 abbrev pub numbered_call : List ℕ → List ℕ → Option Call
 numbered_call command numbers =
     if same_text command (codes "msi") then msi_call (two_words numbers)
     else if same_text command (codes "store") then store_call (three_words numbers)
+    else if same_text command (codes "out") then out_call (three_words numbers)
+    else if same_text command (codes "in") then in_call (two_words numbers)
     else None
 
 -- a command of one word
 abbrev pub bare_call : List ℕ → Option Call
 bare_call command =
     if same_text command (codes "ack") then Some Ack
+    else if same_text command (codes "inta") then Some Inta
     else if same_text command (codes "eoi") then Some Eoi
     else None
 

@@ -1,7 +1,7 @@
 //! The small form of scripts.
-ghost use Rattle.std.specs.Prelude.{◌≡◌, ◌<◌, ◌≤◌, All, length, IsTrue, IfSome, IfOk, IfErr, Ok, Err};
+ghost use Rattle.std.specs.Prelude.{◌≡◌, ◌<◌, ◌≤◌, All, length, IsTrue, IfSome, IfOk, IfErr, Ok, Err, Some};
 ghost use Rattle.irqboard.specs.Lines.{cut_at, ended_lines, is_ended, two_words, three_words};
-ghost use Rattle.irqboard.specs.SmallForm.{is_built, msi_call, store_call, numbered_call, bare_call, command_call, actor_call, call_of, actors_from, script_of};
+ghost use Rattle.irqboard.specs.SmallForm.{is_built, within, msi_call, store_call, out_call, in_call, numbered_call, bare_call, command_call, actor_call, call_of, actors_from, script_of};
 ghost use Rattle.irqboard.specs.Faults.{SaysBad};
 
 use crate::lines::{cut, three_words, two_words};
@@ -31,8 +31,29 @@ fn is_built(call: &Call) -> bool
             len,
             value,
         } => *address == 0xfee0_00f0 && *len == 4 && *value == 0x1ff,
-        Call::Ack | Call::Eoi => true,
+        Call::PortOut { .. } | Call::PortIn { .. } | Call::Ack | Call::Inta | Call::Eoi => true,
         _ => false,
+    }
+}
+
+// A number of 32 bits, or of 16.
+fn word32(number: u64) -> Option<u32>
+    ensures { result ≡ within 32 (Some number) }
+{
+    if number < 1 << 32 {
+        Some(number as u32)
+    } else {
+        None
+    }
+}
+
+fn word16(number: u64) -> Option<u16>
+    ensures { result ≡ within 16 (Some number) }
+{
+    if number < 1 << 16 {
+        Some(number as u16)
+    } else {
+        None
     }
 }
 
@@ -42,15 +63,8 @@ fn msi_call(numbers: &[u8]) -> Option<Call>
 {
     let (address, payload) = two_words(numbers)?;
     let address = read_hex(address, 8)?;
-    let payload = read_hex(payload, 8)?;
-    if payload < 1 << 32 {
-        Some(Call::Msi {
-            address,
-            payload: payload as u32,
-        })
-    } else {
-        None
-    }
+    let payload = word32(read_hex(payload, 8)?)?;
+    Some(Call::Msi { address, payload })
 }
 
 // `ADDR LEN VALUE`
@@ -68,6 +82,27 @@ fn store_call(numbers: &[u8]) -> Option<Call>
     })
 }
 
+// `PORT LEN VALUE`
+fn out_call(numbers: &[u8]) -> Option<Call>
+    ensures { result ≡ out_call (three_words numbers.now) }
+{
+    let (port, len, value) = three_words(numbers)?;
+    let port = word16(read_hex(port, 4)?)?;
+    let len = read_byte(len)?;
+    let value = word32(read_hex(value, value_width(len) as usize)?)?;
+    Some(Call::PortOut { port, len, value })
+}
+
+// `PORT LEN`
+fn in_call(numbers: &[u8]) -> Option<Call>
+    ensures { result ≡ in_call (two_words numbers.now) }
+{
+    let (port, len) = two_words(numbers)?;
+    let port = word16(read_hex(port, 4)?)?;
+    let len = read_byte(len)?;
+    Some(Call::PortIn { port, len })
+}
+
 // A command with numbers behind it.
 fn numbered_call(command: &[u8], numbers: &[u8]) -> Option<Call>
     ensures { result ≡ numbered_call command.now numbers.now }
@@ -76,6 +111,10 @@ fn numbered_call(command: &[u8], numbers: &[u8]) -> Option<Call>
         msi_call(numbers)
     } else if command == b"store".as_slice() {
         store_call(numbers)
+    } else if command == b"out".as_slice() {
+        out_call(numbers)
+    } else if command == b"in".as_slice() {
+        in_call(numbers)
     } else {
         None
     }
@@ -87,6 +126,8 @@ fn bare_call(command: &[u8]) -> Option<Call>
 {
     if command == b"ack".as_slice() {
         Some(Call::Ack)
+    } else if command == b"inta".as_slice() {
+        Some(Call::Inta)
     } else if command == b"eoi".as_slice() {
         Some(Call::Eoi)
     } else {

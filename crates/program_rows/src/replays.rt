@@ -26,6 +26,40 @@ const ILLEGAL_VECTOR: [&str; 4] = [
     "cpu0 eoi -> nothing",
 ];
 
+// A usual start of both chips, and then a cycle without a request: the vector of the master's level 7, which does not go into service.
+const SPURIOUS: [&str; 11] = [
+    "cpu0 out 0020 1 11 -> done",
+    "cpu0 out 0021 1 20 -> done",
+    "cpu0 out 0021 1 04 -> done",
+    "cpu0 out 0021 1 01 -> done",
+    "cpu0 out 00a0 1 11 -> done",
+    "cpu0 out 00a1 1 28 -> done",
+    "cpu0 out 00a1 1 02 -> done",
+    "cpu0 out 00a1 1 01 -> done",
+    "cpu0 inta -> vector 27",
+    "cpu0 out 0020 1 0b -> done",
+    "cpu0 in 0020 1 -> value 00",
+];
+
+// Accesses to ports: the edge/level register keeps the bits of F8h; a chip takes length 1 alone; a length that no access has, or a value
+// that does not fit, is refused before it is asked whose port it is; a port of no chip is the monitor's. At power-on all levels are masked.
+const PORTS: [&str; 14] = [
+    "cpu0 in 0021 1 -> value ff",
+    "cpu0 out 04d0 1 ff -> done",
+    "cpu0 in 04d0 1 -> value f8",
+    "cpu0 out 04d1 1 ff -> done",
+    "cpu0 in 04d1 1 -> value de",
+    "cpu0 out 0020 2 0011 -> done",
+    "cpu0 in 0021 4 -> value 00000000",
+    "cpu0 in 0020 2 -> value 0000",
+    "cpu0 out 0020 3 000011 -> refused 12 bad-range",
+    "cpu0 out 0060 1 100 -> refused 12 bad-range",
+    "cpu0 in 0060 8 -> refused 12 bad-range",
+    "cpu0 out 0060 4 ffffffff -> exit",
+    "cpu0 in 0060 1 -> exit",
+    "cpu0 ack -> nothing",
+];
+
 // Replays the left halves of the entries, and tells whether the transcript is those entries with their places.
 fn is_answered(rt: &HostRuntime, entries: &[&str]) -> Result<bool, Fail> {
     let alloc = rt.alloc();
@@ -51,11 +85,13 @@ fn scripts_have_their_transcripts(rt: HostRuntime) -> Result<(), Fail> {
     assert!(rt; is_answered(&rt, &NOT_ENABLED)?);
     assert!(rt; is_answered(&rt, &MERGED)?);
     assert!(rt; is_answered(&rt, &ILLEGAL_VECTOR)?);
+    assert!(rt; is_answered(&rt, &SPURIOUS)?);
+    assert!(rt; is_answered(&rt, &PORTS)?);
     Ok(())
 }
 
 // Scripts, each with the first line that is outside the form.
-const BAD_SCRIPTS: [(&str, u32); 24] = [
+const BAD_SCRIPTS: [(&str, u32); 30] = [
     ("", 1),
     ("irqboard 1", 1),
     ("irqboard 2\ncpus 1\nend\n", 1),
@@ -86,6 +122,12 @@ const BAD_SCRIPTS: [(&str, u32); 24] = [
     ("irqboard 1\ncpus 1\nend\ncpu0 ack\n", 4),
     ("irqboard 1\ncpus 1\nend\nx", 4),
     ("irqboard 1\ncpus 1\ncpu0 ack\ncpu0 eoi\nEND\n", 5),
+    ("irqboard 1\ncpus 1\ncpu0 out 020 1 11\nend\n", 3),
+    ("irqboard 1\ncpus 1\ncpu0 out 10000 1 11\nend\n", 3),
+    ("irqboard 1\ncpus 1\ncpu0 out 0020 1 011\nend\n", 3),
+    ("irqboard 1\ncpus 1\ncpu0 out 0020 1 100000000\nend\n", 3),
+    ("irqboard 1\ncpus 1\ncpu0 in 0020 256\nend\n", 3),
+    ("irqboard 1\ncpus 1\ncpu0 in 0020 1 00\nend\n", 3),
 ];
 
 #[test]
