@@ -2,6 +2,6 @@
 #![tactic(auto)]
 
 #[cfg(test)]
-mod lapic;
+mod local_apic;
 #[cfg(test)]
 mod messages;
