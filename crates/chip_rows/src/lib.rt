@@ -6,6 +6,8 @@ mod ioapic;
 #[cfg(test)]
 mod lapic;
 #[cfg(test)]
+mod local_apic;
+#[cfg(test)]
 mod messages;
 #[cfg(test)]
 mod pic;

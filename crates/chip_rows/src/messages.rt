@@ -13,20 +13,116 @@ use std::test::Fail;
 #[test]
 fn decoding(rt: HostRuntime) -> Result<(), Fail> {
     let words = [
-        (0xfee0_0000, 0x0000_0041, Mode::Fixed, false, 0x00, 0x41, false),
-        (0xfee0_700c, 0x0000_0062, Mode::Lowest, true, 0x07, 0x62, false),
-        (0xfee0_7008, 0x0000_0062, Mode::Fixed, false, 0x07, 0x62, false),
-        (0xfee0_7004, 0x0000_0062, Mode::Fixed, true, 0x07, 0x62, false),
-        (0xfee0_7000, 0x0000_0162, Mode::Lowest, false, 0x07, 0x62, false),
-        (0xfee0_700c, 0x0000_8062, Mode::Lowest, true, 0x07, 0x62, true),
+        (
+            0xfee0_0000,
+            0x0000_0041,
+            Mode::Fixed,
+            false,
+            0x00,
+            0x41,
+            false,
+        ),
+        (
+            0xfee0_700c,
+            0x0000_0062,
+            Mode::Lowest,
+            true,
+            0x07,
+            0x62,
+            false,
+        ),
+        (
+            0xfee0_7008,
+            0x0000_0062,
+            Mode::Fixed,
+            false,
+            0x07,
+            0x62,
+            false,
+        ),
+        (
+            0xfee0_7004,
+            0x0000_0062,
+            Mode::Fixed,
+            true,
+            0x07,
+            0x62,
+            false,
+        ),
+        (
+            0xfee0_7000,
+            0x0000_0162,
+            Mode::Lowest,
+            false,
+            0x07,
+            0x62,
+            false,
+        ),
+        (
+            0xfee0_700c,
+            0x0000_8062,
+            Mode::Lowest,
+            true,
+            0x07,
+            0x62,
+            true,
+        ),
         (0xfee0_700c, 0x0000_8462, Mode::Nmi, true, 0x07, 0x62, false),
-        (0xfeef_f000, 0x0000_c0ff, Mode::Fixed, false, 0xff, 0xff, true),
+        (
+            0xfeef_f000,
+            0x0000_c0ff,
+            Mode::Fixed,
+            false,
+            0xff,
+            0xff,
+            true,
+        ),
         (0xfee0_100c, 0x0000_8230, Mode::Smi, true, 0x01, 0x30, true),
-        (0xfee0_1000, 0x0000_0330, Mode::Reserved, false, 0x01, 0x30, false),
-        (0xfee0_1000, 0x0000_0530, Mode::Init, false, 0x01, 0x30, false),
-        (0xfee0_1000, 0x0000_0630, Mode::Reserved, false, 0x01, 0x30, false),
-        (0xfee8_0000, 0x0000_0730, Mode::ExtInt, false, 0x80, 0x30, false),
-        (0xfee0_0ff3, 0xffff_7841, Mode::Fixed, false, 0x00, 0x41, false),
+        (
+            0xfee0_1000,
+            0x0000_0330,
+            Mode::Reserved,
+            false,
+            0x01,
+            0x30,
+            false,
+        ),
+        (
+            0xfee0_1000,
+            0x0000_0530,
+            Mode::Init,
+            false,
+            0x01,
+            0x30,
+            false,
+        ),
+        (
+            0xfee0_1000,
+            0x0000_0630,
+            Mode::Reserved,
+            false,
+            0x01,
+            0x30,
+            false,
+        ),
+        (
+            0xfee8_0000,
+            0x0000_0730,
+            Mode::ExtInt,
+            false,
+            0x80,
+            0x30,
+            false,
+        ),
+        (
+            0xfee0_0ff3,
+            0xffff_7841,
+            Mode::Fixed,
+            false,
+            0x00,
+            0x41,
+            false,
+        ),
     ];
     for (address, payload, mode, logical, dest, vector, level) in words {
         let message = Message {
@@ -36,11 +132,17 @@ fn decoding(rt: HostRuntime) -> Result<(), Fail> {
             vector,
             level,
         };
-        assert_eq!(rt; decode(address, payload), Ok(message), "{address:x} {payload:x}");
+        assert!(rt; decode(address, payload) == Ok(message));
     }
-    let bad = [0x1_fee0_0000, 0xfed0_0000, 0xfef0_0000, 0, 0xffff_ffff_fee0_0000];
+    let bad = [
+        0x1_fee0_0000,
+        0xfed0_0000,
+        0xfef0_0000,
+        0,
+        0xffff_ffff_fee0_0000,
+    ];
     for address in bad {
-        assert_eq!(rt; decode(address, 0x41), Err(BadMsi), "{address:x}");
+        assert!(rt; decode(address, 0x41) == Err(BadMsi));
     }
     Ok(())
 }
@@ -96,7 +198,7 @@ fn destinations(rt: HostRuntime) -> Result<(), Fail> {
             vector: 0x41,
             level: false,
         };
-        assert_eq!(rt; matches(&view, &message), is_for, "{number} {ldr:x} {dfr:x} {logical} {dest:x}");
+        assert!(rt; matches(&view, &message) == is_for);
     }
     Ok(())
 }
@@ -111,8 +213,13 @@ fn priorities(rt: HostRuntime) -> Result<(), Fail> {
         dfr: 0xffff_ffff,
         ppr,
     };
-    for (a, b, is_better) in [(0x20, 0x30, true), (0x30, 0x20, false), (0x20, 0x20, false), (0, 0xff, true)] {
-        assert_eq!(rt; better(&at(a), &at(b)), is_better, "{a:x} {b:x}");
+    for (a, b, is_better) in [
+        (0x20, 0x30, true),
+        (0x30, 0x20, false),
+        (0x20, 0x20, false),
+        (0, 0xff, true),
+    ] {
+        assert!(rt; better(&at(a), &at(b)) == is_better);
     }
     Ok(())
 }
