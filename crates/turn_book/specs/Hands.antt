@@ -44,3 +44,8 @@ turned_to (suc n) slot (c ∷ cs) = elim (nat_eq c.0 slot) [ true ↦ c ∷ cs |
 -- turned until the slot is the first, where it is in hand
 abbrev pub brought : {P : Type 0} → ℕ → List (ℕ × P) → List (ℕ × P)
 brought slot cs = turned_to (length cs) slot cs
+
+-- with this value in the slot, where it is the first
+abbrev pub written : {P : Type 0} → ℕ → P → List (ℕ × P) → List (ℕ × P)
+written slot w [] = []
+written slot w (c ∷ cs) = elim (nat_eq c.0 slot) [ true ↦ (slot, w) ∷ cs | false ↦ c ∷ cs ]

@@ -4,11 +4,11 @@ use Rattle.std.specs.Prelude.{Option, Some, None, nat_eq, is_some}
 use Rattle.atomic_table.specs.declared.shared.Seat.{Seat}
 use Rattle.atomic_table.specs.Table.{rest}
 use Rattle.turn_book.specs.declared.view.Held.{Held}
-use Rattle.turn_book.specs.Hands.{held_at, slot_at, are_distinct, turned_to, brought, ArePaired}
+use Rattle.turn_book.specs.Hands.{held_at, slot_at, are_distinct, turned_to, brought, written, ArePaired}
 
--- the seat, with this slot first and with this value
+-- the seat, with this slot brought to the front and with this value in it
 abbrev pub lent_with : {P V : Type 0} → Seat P V → ℕ → P → Seat P V
-lent_with it k w = record { marker = it.marker; table_id = it.table_id; id = it.id; me = (it.me.0, (k, w) ∷ rest (brought k it.me.1)) }
+lent_with it k w = record { marker = it.marker; table_id = it.table_id; id = it.id; me = (it.me.0, written k w (brought k it.me.1)) }
 
 module _ {P : Type 0} where
   pub slot_here : (q : ℕ) (x : P) (cs : List (ℕ × P)) → slot_at q ((q, x) ∷ cs) ≡ Some x
@@ -101,23 +101,39 @@ module _ {P : Type 0} where
       let (absent, more) = distinct_split (slot, x) (rest (brought slot cs)) (subst (λ l. are_distinct l ≡ true) first (brought-distinct slot cs d)) in
       (absent, more, λ q other. sym (slot_else slot q x (rest (brought slot cs)) other) ∙ ap (slot_at q) (sym first) ∙ brought-keeps slot q cs d)
 
-  -- Of a slot in hand that was lent, and of the others: the slot has what was written, each other what it had
-  pub slot_lent : (p q : ℕ) (w : P) (cs : List (ℕ × P)) → are_distinct cs ≡ true → is_some (slot_at p cs) ≡ true → slot_at q ((p, w) ∷ rest (brought p cs)) ≡ elim (nat_eq p q) [ true ↦ Some w | false ↦ slot_at q cs ]
+  -- a slot that was written is where it was, and so is each other
+  pub written-first : (slot : ℕ) (w x : P) (cs : List (ℕ × P)) → written slot w ((slot, x) ∷ cs) ≡ (slot, w) ∷ cs
+  written-first slot w x cs = let t : nat_eq slot slot ≡ true = grind arith in ap (λ b. elim b [ true ↦ (slot, w) ∷ cs | false ↦ (slot, x) ∷ cs ]) t
+
+  written-there : (slot q : ℕ) (w : P) (cs : List (ℕ × P)) → is_some (slot_at q (written slot w cs)) ≡ is_some (slot_at q cs)
+  written-there slot q w [] = refl
+  written-there slot q w (c ∷ cs) = elim (nat_eq c.0 slot) as (λ b. nat_eq c.0 slot ≡ b → is_some (slot_at q (elim b [ true ↦ (slot, w) ∷ cs | false ↦ c ∷ cs ])) ≡ is_some (slot_at q (c ∷ cs))) [
+    | true ↦ λ t. (let same : c.0 ≡ slot = grind arith in subst (λ n. is_some (slot_at q ((n, w) ∷ cs)) ≡ is_some (slot_at q (c ∷ cs))) same (by_value (nat_eq c.0 q)))
+    | false ↦ λ t. refl
+  ] refl
+    where
+      by_value : (b : Bool) → is_some (elim b as (λ _. Option P) [ true ↦ Some w | false ↦ slot_at q cs ]) ≡ is_some (elim b as (λ _. Option P) [ true ↦ Some c.1 | false ↦ slot_at q cs ])
+      by_value true = refl
+      by_value false = refl
+
+  written-distinct : (slot : ℕ) (w : P) (cs : List (ℕ × P)) → are_distinct (written slot w cs) ≡ are_distinct cs
+  written-distinct slot w [] = refl
+  written-distinct slot w (c ∷ cs) = elim (nat_eq c.0 slot) as (λ b. nat_eq c.0 slot ≡ b → are_distinct (elim b [ true ↦ (slot, w) ∷ cs | false ↦ c ∷ cs ]) ≡ are_distinct (c ∷ cs)) [
+    | true ↦ λ t. (let same : c.0 ≡ slot = grind arith in ap (λ n. elim (is_some (slot_at n cs)) [ true ↦ false | false ↦ are_distinct cs ]) (sym same))
+    | false ↦ λ t. refl
+  ] refl
+
+  -- Of the slots of a pen that lent a part: the part's slot has what was written, each other what it had
+  pub slot_lent : (p q : ℕ) (w : P) (cs : List (ℕ × P)) → are_distinct cs ≡ true → is_some (slot_at p cs) ≡ true → slot_at q (written p w (brought p cs)) ≡ elim (nat_eq p q) [ true ↦ Some w | false ↦ slot_at q cs ]
   slot_lent p q w cs d h =
       let (x, is) = has (slot_at p cs) h in
       let r = rest-brought p cs x d is in
-      elim (nat_eq p q) as (λ b. nat_eq p q ≡ b → (elim b [ true ↦ Some w | false ↦ slot_at q (rest (brought p cs)) ]) ≡ (elim b [ true ↦ Some w | false ↦ slot_at q cs ])) [ true ↦ λ t. refl | false ↦ λ t. r.2 q t ] refl
+      ap (slot_at q) (ap (written p w) (brought-first p cs x is) ∙ written-first p w x (rest (brought p cs)))
+      ∙ elim (nat_eq p q) as (λ b. nat_eq p q ≡ b → (elim b [ true ↦ Some w | false ↦ slot_at q (rest (brought p cs)) ]) ≡ (elim b [ true ↦ Some w | false ↦ slot_at q cs ])) [ true ↦ λ t. refl | false ↦ λ t. r.2 q t ] refl
 
-  pub lent-distinct : (p : ℕ) (w : P) (cs : List (ℕ × P)) → are_distinct cs ≡ true → is_some (slot_at p cs) ≡ true → are_distinct ((p, w) ∷ rest (brought p cs)) ≡ true
-  lent-distinct p w cs d h =
-      let (x, is) = has (slot_at p cs) h in
-      let r = rest-brought p cs x d is in
-      distinct_cons (p, w) (rest (brought p cs)) r.0 r.1
+  -- what a pen says of its slots stays
+  pub lent-distinct : (p : ℕ) (w : P) (cs : List (ℕ × P)) → are_distinct cs ≡ true → are_distinct (written p w (brought p cs)) ≡ true
+  lent-distinct p w cs d = written-distinct p w (brought p cs) ∙ brought-distinct p cs d
 
-  pub lent-paired : (hs : List (Held P)) (p : ℕ) (w : P) (cs : List (ℕ × P)) → are_distinct cs ≡ true → ArePaired hs cs → is_some (slot_at p cs) ≡ true → ArePaired hs ((p, w) ∷ rest (brought p cs))
-  lent-paired hs p w cs d pair h q =
-      ap is_some (slot_lent p q w cs d h)
-      ∙ elim (nat_eq p q) as (λ b. nat_eq p q ≡ b → is_some (elim b [ true ↦ Some w | false ↦ slot_at q cs ]) ≡ is_some (held_at q hs)) [
-        | true ↦ λ t. (let same : p ≡ q = grind arith in sym h ∙ ap (λ n. is_some (slot_at n cs)) same ∙ pair q)
-        | false ↦ λ t. pair q
-      ] refl
+  pub lent-paired : (p : ℕ) (w : P) (hs : List (Held P)) (cs : List (ℕ × P)) → are_distinct cs ≡ true → ArePaired hs cs → ArePaired hs (written p w (brought p cs))
+  lent-paired p w hs cs d pair q = written-there p q w (brought p cs) ∙ ap is_some (brought-keeps p q cs d) ∙ pair q

@@ -7,7 +7,7 @@ ghost use Rattle.turn_book.specs.Views.{view_of, slots_of, first_view, split_vie
 ghost use Rattle.turn_book.specs.Plays.{IsAsHistoryHas, IsLastLook, LeadsOn, HoldsReach};
 ghost use Rattle.turn_book.specs.Ending.{EndsRight, AllEnded};
 
-use crate::lend::bring;
+use crate::slots::bring;
 use crate::machine::{Entering, Machine, Naming};
 use crate::pen::Pen;
 use crate::plays::{Commit, Cut, CutFor, Give, Glue, Kept, Learn, Look, Take};

@@ -1,32 +1,39 @@
 ghost use Rattle.std.specs.Prelude.{◌≡◌, ◌∷◌, true, is_some, Some};
 ghost use Rattle.std.specs.Borrow.{Lends, sem};
-ghost use Rattle.atomic_table.specs.Table.{rest};
-ghost use Rattle.atomic_table.specs.contracts.shared.Seat.{the_row};
 ghost use Rattle.turn_book.specs.Hands.{brought, held_at, slot_at};
-ghost use Rattle.turn_book.specs.Lent.{lent_with};
-ghost use Rattle.turn_book.specs.contracts.view.View.{the_row as view_row};
+ghost use Rattle.turn_book.specs.Views.{view_of, slots_of};
+ghost use Rattle.turn_book.specs.Lent.{lent_with, lent-distinct, lent-paired};
+ghost use Rattle.turn_book.specs.contracts.pen.Pen.{the_row as pen_row};
 
 use crate::book::TurnBook;
+use crate::slots::part_brought;
 use crate::machine::Machine;
-use crate::pen::Hand;
-use atomic_table::Seat;
+use crate::pen::Pen;
 
-/// The slot comes to the front of those that the seat has in hand, where it is one of them.
-pub(crate) fn bring<S, V>(seat: &mut Seat<S, V>, slot: usize)
-    ensures { (seat.new.table_id ≡ seat.old.table_id) × (seat.new.id ≡ seat.old.id) × (seat.new.me ≡ (seat.old.me.0, brought slot seat.old.me.1)) }
-{}
-
-/// The part in hand, lent by the seat.
-pub(crate) fn part_brought<'a, M: Machine>(
-    hand: &'a mut Hand<M>,
+/// The part in hand, lent. What is written through it is what the pen then has in hand, and no other slot changes.
+pub fn part_of<'a, M: Machine>(
+    pen: &'a mut Pen<M>,
     book: &'a TurnBook<M>,
     part: u32,
 ) -> &'a mut M::Part
-    requires book { hand.old.table_id ≡ book.now.table.shared.table_id }
-    requires first { (x : M.Part) × (brought part hand.old.me.1 ≡ (part, x) ∷ rest (brought part hand.old.me.1)) }
-    ensures* writes_back { sem 𝓛 (Lends (the_row M.Part.row (view_row M.State.row M.Entry.row M.Part.row)) M.Part.row hand.entry result (lent_with hand.old part)) }
-    ensures value { brought part hand.old.me.1 ≡ (part, result.now) ∷ rest (brought part hand.old.me.1) }
+    requires book { pen.old.seat.table_id ≡ book.now.table.shared.table_id }
+    requires held { is_some (held_at part (view_of pen.old.seat).held) ≡ true }
+    ensures* writes_back { sem 𝓛 (Lends (pen_row M.row M.Part.row M.Entry.row M.State.row M.Machine) M.Part.row pen.entry result (λ w. record pen.old { seat = lent_with pen.old.seat part w; distinct = lent-distinct part w (slots_of pen.old.seat) pen.old.distinct; paired = lent-paired part w (view_of pen.old.seat).held (slots_of pen.old.seat) pen.old.distinct pen.old.paired })) }
+    ensures value { slot_at part (slots_of pen.old.seat) ≡ Some result.now }
 {
-    bring(hand, part as usize);
-    hand.slot_mut(&book.table.shared, part as usize)
+    part_brought(&mut pen.seat, book, part)
+}
+
+impl<M: Machine> TurnBook<M> {
+    /// The part in hand, lent: the same as `part_of`, with the book first.
+    ///
+    /// A caller follows what is written through it where the pen stands first, as in `part_of`.
+    pub fn lend<'a>(&'a self, pen: &'a mut Pen<M>, part: u32) -> &'a mut M::Part
+        requires book { pen.old.seat.table_id ≡ self.now.table.shared.table_id }
+        requires held { is_some (held_at part (view_of pen.old.seat).held) ≡ true }
+        ensures* writes_back { sem 𝓛 (Lends (pen_row M.row M.Part.row M.Entry.row M.State.row M.Machine) M.Part.row pen.entry result (λ w. record pen.old { seat = lent_with pen.old.seat part w; distinct = lent-distinct part w (slots_of pen.old.seat) pen.old.distinct; paired = lent-paired part w (view_of pen.old.seat).held (slots_of pen.old.seat) pen.old.distinct pen.old.paired })) }
+        ensures value { slot_at part (slots_of pen.old.seat) ≡ Some result.now }
+    {
+        part_of(pen, self, part)
+    }
 }

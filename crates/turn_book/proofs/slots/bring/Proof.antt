@@ -10,10 +10,10 @@ use types.Logic.{Logic}
 use base.Logic.{via, id⊢}
 use Rattle.std.specs.Prelude.{zero, suc, true, false, nat_eq, length}
 use Rattle.turn_book.specs.Hands.{brought, turned_to}
-use Rattle.turn_book.specs.contracts.lend.bring.{ended, clauses}
-use Rattle.turn_book.specs.contracts.lend.bring.Key.{name as #self}
-use Rattle.turn_book.proofs.lend.bring.Statement.{statement}
-use Rattle.turn_book.proofs.lend.bring.Code as code
+use Rattle.turn_book.specs.contracts.slots.bring.{ended, clauses}
+use Rattle.turn_book.specs.contracts.slots.bring.Key.{name as #self}
+use Rattle.turn_book.proofs.slots.bring.Statement.{statement}
+use Rattle.turn_book.proofs.slots.bring.Code as code
 
 module _ {M : Type 1} {𝓤 : Ura M} (𝓛 : Logic 𝓤) (R : RattleType) {V : Type 0} (cv : Coded V) (z : TableId) (id : ℕ) (v : V) where
   turns_to : (n slot : ℕ) (cs : List (ℕ × R.Denot)) → ent 𝓤 (sem 𝓛 (mine R cv.code z id (v, cs))) (sem 𝓛 (mine R cv.code z id (v, turned_to n slot cs)))
