@@ -14,6 +14,18 @@ module _ {P : Type 0} where
   no_slots hs [] bare pair = refl
   no_slots hs (c ∷ cs) bare pair = absurd (not_both (is_some (slot_at c.0 (c ∷ cs))) (ap is_some (slot_here c.0 c.1 cs)) (pair c.0 ∙ ap (λ l. is_some (held_at c.0 l)) bare))
 
+  -- a list in which no part is held is empty
+  pub none_held : (hs : List (Held P)) → ((q : ℕ) → is_some (held_at q hs) ≡ false) → hs ≡ []
+  none_held [] f = refl
+  none_held (h ∷ hs) f = absurd (not_both (is_some (held_at h.part (h ∷ hs))) (let t : nat_eq h.part h.part ≡ true = grind arith in ap (λ b. is_some (elim b [ true ↦ Some h.value | false ↦ held_at h.part hs ])) t) (f h.part))
+
+  -- where nothing but a part is held, nothing is left without it
+  pub bare_without : (hs : List (Held P)) (p : ℕ) → ((q : ℕ) → nat_eq p q ≡ false → is_some (held_at q hs) ≡ false) → held_without p hs ≡ []
+  bare_without hs p f = none_held (held_without p hs) (λ q. elim (nat_eq p q) as (λ b. nat_eq p q ≡ b → is_some (held_at q (held_without p hs)) ≡ false) [
+    | true ↦ λ t. (let same : p ≡ q = grind arith in subst (λ r. is_some (held_at r (held_without p hs)) ≡ false) same (ap is_some (held-gone p hs)))
+    | false ↦ λ t. (let other : p ≢ q = λ e. (let no_way : ⊥ = grind arith in no_way) in ap is_some (held-else p q other hs) ∙ f q t)
+  ] refl)
+
   -- a part that is held is in hand
   pub in_hand : (hs : List (Held P)) (cs : List (ℕ × P)) (p : ℕ) → ArePaired hs cs → is_some (held_at p hs) ≡ true → (x : P) × (slot_at p cs ≡ Some x)
   in_hand hs cs p pair h = has (slot_at p cs) (pair p ∙ h)

@@ -131,6 +131,11 @@ module _ {P : Type 0} where
       ap (slot_at q) (ap (written p w) (brought-first p cs x is) ∙ written-first p w x (rest (brought p cs)))
       ∙ elim (nat_eq p q) as (λ b. nat_eq p q ≡ b → (elim b [ true ↦ Some w | false ↦ slot_at q (rest (brought p cs)) ]) ≡ (elim b [ true ↦ Some w | false ↦ slot_at q cs ])) [ true ↦ λ t. refl | false ↦ λ t. r.2 q t ] refl
 
+  pub lent_here : (p : ℕ) (w : P) (cs : List (ℕ × P)) → is_some (slot_at p cs) ≡ true → slot_at p (written p w (brought p cs)) ≡ Some w
+  lent_here p w cs h =
+      let (x, is) = has (slot_at p cs) h in
+      ap (slot_at p) (ap (written p w) (brought-first p cs x is) ∙ written-first p w x (rest (brought p cs))) ∙ slot_here p w (rest (brought p cs))
+
   -- what a pen says of its slots stays
   pub lent-distinct : (p : ℕ) (w : P) (cs : List (ℕ × P)) → are_distinct cs ≡ true → are_distinct (written p w (brought p cs)) ≡ true
   lent-distinct p w cs d = written-distinct p w (brought p cs) ∙ brought-distinct p cs d

@@ -90,6 +90,7 @@ impl<M: Machine> TurnBook<M> {
         ensures ended { HasJustEnded M.caller (view_of pen.new.seat) }
         ensures made { HasOnlyMade M.caller (view_of pen.new.seat) }
         ensures looks { (view_of pen.new.seat).looks ≡ (view_of pen.old.seat).looks ++ result ∷ [] }
+        ensures last_look { IsLastLook result (view_of pen.new.seat) }
         ensures misses { (view_of pen.new.seat).misses ≡ (view_of pen.old.seat).misses }
         ensures place { SamePlace (view_of pen.old.seat) (view_of pen.new.seat) }
         ensures turns { SameTurns (view_of pen.old.seat) (view_of pen.new.seat) }
