@@ -1,13 +1,13 @@
 -- The value of a counter in hand, before and after a change
-use Rattle.std.proofs.Common.{◌≡◌, ◌≢◌, ℕ, ◌+◌, ◌<◌, ◌≤◌, ◌^◌, List, [], ◌∷◌, ◌++◌, length, Bool, true, false, refl, sym, ap, ◌∙◌, subst, arith, cond}
-use Rattle.std.specs.Prelude.{Option, Some, None, IfSome, is_some, nat_eq, slice_get, slice_set, filter}
+use Rattle.std.proofs.Common.{◌≡◌, ℕ, ◌+◌, ◌<◌, ◌^◌, List, [], ◌∷◌, ◌++◌, length, true, refl, sym, ap, ◌∙◌, subst, arith, cond}
+use Rattle.std.specs.Prelude.{Some, IfSome, is_some, nat_eq, slice_get, slice_set}
 use Rattle.turn_book.specs.declared.view.Front.{Front}
 use Rattle.turn_book.specs.declared.view.View.{View}
-use Rattle.turn_book.specs.Histories.{Runs, entries_of}
+use Rattle.turn_book.specs.Histories.{entries_of}
 use Rattle.turn_book.specs.Hands.{held_at}
 use Rattle.turn_book.specs.Views.{IsLegal, HoldsRight}
-use Rattle.turn_book.specs.Plays.{IsAt, LeadsOn}
-use Rattle.turn_book.proofs.Lists.{some_is, none_not, has, filter-append}
+use Rattle.turn_book.specs.Plays.{LeadsOn}
+use Rattle.turn_book.proofs.Lists.{some_is, has, filter-append}
 use Rattle.book_rows.specs.declared.machine.Change.{Change}
 use Rattle.book_rows.specs.declared.machine.Change.TheVariants.{Add}
 use Rattle.book_rows.specs.declared.machine.Counts.{Counts}

@@ -1,9 +1,9 @@
 -- A row of counters: what a change does, and the laws of the machine
-use Rattle.std.proofs.Common.{◌≡◌, ◌≢◌, ℕ, zero, suc, ◌+◌, ◌-◌, ◌<◌, ◌≤◌, ◌^◌, List, [], ◌∷◌, length, Bool, true, false, refl, sym, ap, ◌∙◌, subst, arith, ◌||◌}
+use Rattle.std.proofs.Common.{◌≡◌, ℕ, zero, suc, ◌+◌, ◌-◌, ◌<◌, ◌≤◌, ◌^◌, List, [], ◌∷◌, length, Bool, true, false, refl, sym, ap, ◌∙◌, subst, arith, ◌||◌}
 use Rattle.std.specs.Prelude.{Option, Some, None, slice_get, slice_set, nat_eq, count_by}
 use Rattle.turn_book.specs.Histories.{Runs}
-use Rattle.turn_book.specs.Laws.{DependsOnReach, IsBounded, Agree}
-use Rattle.turn_book.proofs.Lists.{some_is, length-set, get_within, get_there}
+use Rattle.turn_book.specs.Laws.{DependsOnReach, IsBounded}
+use Rattle.turn_book.proofs.Lists.{some_is, length-set}
 use Rattle.book_rows.specs.declared.machine.Change.{Change}
 use Rattle.book_rows.specs.declared.machine.Change.TheVariants.{Add, Move}
 use Rattle.book_rows.specs.declared.machine.Counts.{Counts}

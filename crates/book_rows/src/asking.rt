@@ -87,6 +87,55 @@ fn win<R: Wait>(rt: &R, book: &TurnBook<Counting>, pen: &mut Pen<Counting>, part
 /// The most changes that a row of counters has.
 const MOST: u64 = 1 << 40;
 
+/// Why a change was not made.
+#[derive(Clone, Copy, Debug, PartialEq, Eq)]
+pub enum Refused {
+    /// The counter would pass its type's end, or all changes are spent.
+    Full,
+    /// Another front was found.
+    Lost(Front),
+}
+
+/// Adds n to a counter in hand, with one exchange of the front, and answers the change's place.
+pub fn add_once(
+    book: &TurnBook<Counting>,
+    pen: &mut Pen<Counting>,
+    had: Front,
+    caller: u32,
+    counter: u32,
+    n: u64,
+) -> Result<u64, Refused>
+    requires book { pen.old.seat.table_id ≡ book.now.table.shared.table_id }
+    requires last_look { IsLastLook had (view_of pen.old.seat) }
+    requires legal { IsLegal (λ s. s.changes ≡ 0) Counted (view_of pen.old.seat) }
+    requires holds { HoldsRight (λ s. s.counters) (view_of pen.old.seat) }
+    requires caller { (view_of pen.old.seat).caller ≡ Some caller }
+    requires held { is_some (held_at counter (view_of pen.old.seat).held) ≡ true }
+    requires home { slot_at counter (slots_of pen.old.seat) ≡ held_at counter (view_of pen.old.seat).held }
+    ensures book { pen.new.seat.table_id ≡ pen.old.seat.table_id }
+    ensures held { (q : ℕ) → is_some (held_at q (view_of pen.new.seat).held) ≡ is_some (held_at q (view_of pen.old.seat).held) }
+    ensures home { slot_at counter (slots_of pen.new.seat) ≡ held_at counter (view_of pen.new.seat).held }
+    ensures place { SamePlace (view_of pen.old.seat) (view_of pen.new.seat) }
+    ensures at { IfOk result (λ at. at ≡ length (view_of pen.old.seat).seen) }
+    ensures added { IfOk result (λ at. (view_of pen.new.seat).seen ≡ (view_of pen.old.seat).seen ++ Change.Add caller counter n ∷ []) }
+    ensures lost { IfErr result (λ e. AddsNoneOfOwn caller_of (view_of pen.old.seat) (view_of pen.new.seat)) }
+{
+    if had.length >= MOST {
+        return Err(Refused::Full);
+    }
+    let before = *part_of(pen, book, counter);
+    let Some(after) = before.checked_add(n) else {
+        return Err(Refused::Full);
+    };
+    match change(book, pen, had, Change::Add(caller, counter, n)) {
+        Ok(at) => {
+            *part_of(pen, book, counter) = after;
+            Ok(at)
+        }
+        Err(now) => Err(Refused::Lost(now)),
+    }
+}
+
 /// Adds n to a counter in hand, and answers the change's place; or nothing, where the counter would pass its type's end
 /// or all changes are spent.
 fn add_held<R: Wait>(
@@ -110,14 +159,10 @@ fn add_held<R: Wait>(
 {
     for _ in rt.forever() {
         let had = book.front(pen);
-        if had.length >= MOST {
-            return None;
-        }
-        let before = *part_of(pen, book, counter);
-        let after = before.checked_add(n)?;
-        if let Ok(at) = change(book, pen, had, Change::Add(caller, counter, n)) {
-            *part_of(pen, book, counter) = after;
-            return Some(at);
+        match add_once(book, pen, had, caller, counter, n) {
+            Ok(at) => return Some(at),
+            Err(Refused::Full) => return None,
+            Err(Refused::Lost(_)) => {}
         }
     }
     unreachable!()

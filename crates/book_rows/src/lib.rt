@@ -2,8 +2,9 @@
 #![tactic(auto)]
 
 mod asking;
+mod calls;
 mod machine;
 mod threads;
 
-pub use asking::{add, change};
+pub use asking::{Refused, add, add_once, change};
 pub use machine::{Change, Counting, Counts};

@@ -21,7 +21,9 @@ pub struct Counting;
 
 impl Machine for Counting {
     type Part = u64;
+
     type Entry = Change;
+
     type State = Counts;
 
     ghost use Rattle.std.specs.Prelude.{◌≡◌, [], false};

@@ -1,12 +1,10 @@
 -- The rule holds of a new book
-use Rattle.std.proofs.Common.{◌≡◌, ℕ, zero, suc, ◌+◌, ◌≤◌, inl, inr, List, [], ◌∷◌, length, map, true, false, refl, sym, ap, ◌∙◌, subst, arith}
+use Rattle.std.proofs.Common.{◌≡◌, ℕ, zero, suc, ◌+◌, List, [], ◌∷◌, length, map, false, refl, sym, ap, ◌∙◌, subst, arith}
 use Rattle.std.proofs.lemmas.List.{length-map}
-use Rattle.std.specs.Prelude.{Some, None, slice_get, slice_index}
+use Rattle.std.specs.Prelude.{Some, slice_get, slice_index}
 use mathlib.Core.Option.{some, some-injective, some-ne-none}
 use lib.ListN.{get_elem?}
 use Rattle.atomic_table.specs.Table.{opening}
-use Rattle.turn_book.specs.declared.view.Front.{Front}
-use Rattle.turn_book.specs.declared.view.View.{View}
 use Rattle.turn_book.specs.Rule.{Workings, Behind, IsKept, Knows}
 use Rattle.turn_book.specs.Views.{first_view}
 use Rattle.turn_book.proofs.Lists.{some_is, none_not, not_both, prefix-nil}
@@ -32,6 +30,7 @@ module _ {S E P : Type 0} (m : Workings S E P) where
     heard = prefix-nil [];
     stands = (o, refl, refl);
     looked = λ f h. absurd (none_not f h);
+    fronts = (tt, tt);
     holds = λ p x h. absurd (none_not x h);
     idle = λ h. refl;
     own = λ c h. (refl, refl);

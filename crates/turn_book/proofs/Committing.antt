@@ -1,6 +1,6 @@
 -- An exchange of the front keeps the rule: one entry more, or another front was found
 use Rattle.std.proofs.Common.{◌≡◌, ◌≢◌, ℕ, ◌+◌, ◌<◌, ◌≤◌, ◌%◌, ◌^◌, List, [], ◌∷◌, ◌++◌, length, Bool, true, false, refl, sym, ap, ◌∙◌, subst, arith, append-nil, length-append, ◌==◌}
-use Rattle.std.specs.Prelude.{Option, Some, None, slice_get, slice_index, slice_set, is_some, nat_eq, IfSome, unwrap_or}
+use Rattle.std.specs.Prelude.{Option, Some, None, slice_get, slice_index, slice_set, is_some, nat_eq}
 use mathlib.Core.Option.{some}
 use lib.ListN.{get_elem?}
 use prog.Atomic.{either}
@@ -8,15 +8,15 @@ use Rattle.atomic_table.specs.Table.{State, Me, Step, Act, Valid, stepped, keeps
 use Rattle.turn_book.specs.declared.view.Front.{Front}
 use Rattle.turn_book.specs.declared.view.Miss.{Miss}
 use Rattle.turn_book.specs.declared.view.View.{View}
-use Rattle.turn_book.specs.Histories.{Runs, IsPrefix, entries_of, is_in, last_of}
+use Rattle.turn_book.specs.Histories.{Runs, entries_of, is_in}
 use Rattle.turn_book.specs.Hands.{held_at, held_after}
 use Rattle.turn_book.specs.Rule.{Workings, Behind, IsKept, Knows, turn_of}
-use Rattle.turn_book.specs.Views.{front_at, ended_at, IsLegal, HoldsRight, HasJustEnded, HasOnlyMade}
+use Rattle.turn_book.specs.Views.{front_at, ended_at}
 use Rattle.turn_book.specs.Plays.{Meets, Commits, IsLastLook, IsAt, LeadsOn, HoldsReach}
-use Rattle.turn_book.proofs.Lists.{some_is, none_not, not_both, index-other, index-same, length-set, get_or_own, prefix-nil, prefix-snoc, prefix-length, prefix-whole, filter-append, filter-one, runs-snoc, runs-one}
+use Rattle.turn_book.proofs.Lists.{some_is, none_not, not_both, index-other, index-same, length-set, get_or_own, prefix-snoc, prefix-whole, filter-append, filter-one, runs-snoc, runs-one}
 use Rattle.turn_book.proofs.Holding.{held-after, held_after-some}
 use Rattle.turn_book.proofs.Seating.{each_set, out_set, seats_set}
-use Rattle.turn_book.proofs.Looking.{met_view, met_keeps, meets, looks_low}
+use Rattle.turn_book.proofs.Looking.{met_view, met_keeps, meets, looks_low, misses_more, last_low}
 
 module _ {S E P : Type 0} (m : Workings S E P) (reach : S → E → ℕ → Bool) (opening : S)
     (one : (s : S) (e : E) (t u : S) → m.steps s e t → m.steps s e u → t ≡ u)
@@ -84,6 +84,7 @@ module _ {S E P : Type 0} (m : Workings S E P) (reach : S → E → ℕ → Bool
       heard = prefix-snoc v.heard k.behind.history e known.heard;
       stands = (t, refl, subst (λ l. Runs m.steps opening (l ++ e ∷ []) t) (sym all) legal');
       looked = λ f h. (let a = known.looked f h in let b = length-append v.seen (e ∷ []) in omega arith);
+      fronts = known.fronts;
       holds = adder_holds;
       idle = λ no_caller. absurd (none_not (m.caller e) (sym no_caller ∙ called));
       own = λ d h. (ap (λ l. entries_of m.caller d (l ++ e ∷ [])) (sym all), ap (λ l. entries_of m.caller d (l ++ e ∷ [])) (sym all));
@@ -103,6 +104,7 @@ module _ {S E P : Type 0} (m : Workings S E P) (reach : S → E → ℕ → Bool
           heard = prefix-snoc u.heard k.behind.history e theirs.heard;
           stands = theirs.stands;
           looked = theirs.looked;
+          fronts = theirs.fronts;
           holds = λ p x h. (let before = theirs.holds p x h in (turn-front p ∙ before.0, before.1, unheld_stays p (λ y was. other (sym before.1 ∙ (known.holds p y was).1)) ∙ before.2));
           idle = theirs.idle;
           own = λ d h.
@@ -237,7 +239,7 @@ module _ {S E P : Type 0} (m : Workings S E P) (reach : S → E → ℕ → Bool
             met_view m opening me.0 k.behind.history k.behind.now me.0.looks misses,
             keeps,
             tt,
-            met_keeps m opening s k id me.0 at live me.0.looks misses (looks_low m opening s k id me.0 at live),
+            met_keeps m opening s k id me.0 at live me.0.looks misses (looks_low m opening s k id me.0 at live) (known.fronts.0, misses_more me.0.misses had (front_at (slice_index s.words 0)) known.fronts.1 (last_low me.0.looks had known.fronts.0 last) (omega arith)),
             (
               refl,
               meets m opening s k id me.0 at live me.0.looks misses,

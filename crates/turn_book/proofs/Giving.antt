@@ -1,6 +1,6 @@
 -- A store of 0 to the turn of a part in hand keeps the rule: the part is home
-use Rattle.std.proofs.Common.{◌≡◌, ◌≢◌, ℕ, ◌+◌, ◌<◌, List, [], ◌∷◌, length, true, false, refl, sym, ap, ◌∙◌, subst, arith}
-use Rattle.std.specs.Prelude.{Some, None, slice_get, slice_set, nat_eq, is_some}
+use Rattle.std.proofs.Common.{◌≡◌, ◌≢◌, ℕ, ◌+◌, ◌<◌, List, ◌∷◌, length, true, false, refl, sym, ap, ◌∙◌, subst, arith}
+use Rattle.std.specs.Prelude.{Some, slice_get, slice_set, nat_eq, is_some}
 use mathlib.Core.Option.{some}
 use lib.ListN.{get_elem?}
 use Rattle.atomic_table.specs.Table.{State, Step, gives, Allows}
@@ -47,6 +47,7 @@ module _ {S E P : Type 0} (m : Workings S E P) (opening : S) where
       heard = known.heard;
       stands = known.stands;
       looked = known.looked;
+      fronts = known.fronts;
       holds = λ q y h. (let r = held-without p q y v.held h in holds_still id q y r.0 (known.holds q y r.1));
       idle = λ no_caller. absurd (none_not x (ap (held_at p) (sym (known.idle no_caller)) ∙ held));
       own = known.own;
@@ -65,6 +66,7 @@ module _ {S E P : Type 0} (m : Workings S E P) (opening : S) where
           heard = theirs.heard;
           stands = theirs.stands;
           looked = theirs.looked;
+          fronts = theirs.fronts;
           holds = λ q y h.
               let r = theirs.holds q y h in
               holds_still j q y (λ same. apart (sym r.1 ∙ ap k.behind.owner (sym same) ∙ (known.holds p x held).1)) r;

@@ -1,6 +1,6 @@
 -- What a pen says of its slots stays when parts are taken, given and committed
 use Rattle.std.proofs.Common.{◌≡◌, ◌≢◌, ℕ, List, [], ◌∷◌, true, false, refl, sym, ap, ◌∙◌, subst, arith}
-use Rattle.std.specs.Prelude.{Option, Some, None, nat_eq, nat_lt, is_some}
+use Rattle.std.specs.Prelude.{Some, nat_eq, nat_lt, is_some}
 use Rattle.atomic_table.specs.Table.{rest}
 use Rattle.turn_book.specs.declared.view.Held.{Held}
 use Rattle.turn_book.specs.Hands.{held_at, held_without, slot_at, are_distinct, brought, ArePaired, AreBelow}

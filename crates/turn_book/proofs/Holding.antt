@@ -1,5 +1,5 @@
 -- What is held after an entry, and without a part
-use Rattle.std.proofs.Common.{◌≡◌, ◌≢◌, ℕ, List, [], ◌∷◌, Bool, true, false, subst, refl, sym, ap, ◌∙◌, arith}
+use Rattle.std.proofs.Common.{◌≡◌, ◌≢◌, ℕ, List, [], ◌∷◌, true, false, subst, refl, sym, ap, ◌∙◌, arith}
 use Rattle.std.specs.Prelude.{Some, None, slice_get, unwrap_or, is_some, nat_eq}
 use Rattle.turn_book.specs.declared.view.Held.{Held}
 use Rattle.turn_book.specs.Hands.{held_at, held_after, held_without}
@@ -33,7 +33,6 @@ held-else {P} p q n (k ∷ hs) = elim (nat_eq k.part p) as (λ b. nat_eq k.part 
   where
     not_here : (k.part ≡ q → ⊥) → nat_eq k.part q ≡ false
     not_here apart = grind arith
-
 
 pub held-gone : {P : Type 0} (p : ℕ) (hs : List (Held P)) → held_at p (held_without p hs) ≡ None
 held-gone p [] = refl

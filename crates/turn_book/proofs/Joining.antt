@@ -1,16 +1,15 @@
 -- Two seats made one keep the rule
-use Rattle.std.proofs.Common.{◌≡◌, ◌≢◌, ℕ, ◌+◌, ◌≤◌, ◌<◌, List, [], ◌∷◌, ◌++◌, length, Bool, true, false, refl, sym, ap, ◌∙◌, subst, ⊎_elim, inl, inr, ◌⊎◌, arith}
+use Rattle.std.proofs.Common.{◌≡◌, ◌≢◌, ℕ, ◌≤◌, ◌<◌, List, [], ◌∷◌, length, Bool, true, false, refl, sym, ap, ◌∙◌, subst, ⊎_elim, inl, inr, ◌⊎◌, arith}
 use Rattle.std.specs.Prelude.{Option, Some, None, nat_eq, nat_le, is_some, slice_set, if◌then◌else◌}
 use mathlib.Core.Option.{some, some-injective}
 use lib.ListN.{get_elem?}
 use Rattle.atomic_table.specs.Table.{State, Joins}
 use Rattle.atomic_table.proofs.Lists.{at_set, set_else}
-use Rattle.turn_book.specs.declared.view.Front.{Front}
 use Rattle.turn_book.specs.declared.view.View.{View}
 use Rattle.turn_book.specs.declared.view.Ended.{Ended}
-use Rattle.turn_book.specs.Histories.{IsPrefix, entries_of, is_in, last_of, Runs}
+use Rattle.turn_book.specs.Histories.{IsPrefix, entries_of, is_in, Runs}
 use Rattle.turn_book.specs.Hands.{held_at}
-use Rattle.turn_book.specs.Rule.{Workings, Behind, IsKept, Knows, Seats, IsOut, HasSeat, turn_of}
+use Rattle.turn_book.specs.Rule.{Workings, Behind, IsKept, Knows, IsOut, HasSeat, turn_of}
 use Rattle.turn_book.specs.Views.{ended_at, with_end, joined_view, spent_view}
 use Rattle.turn_book.proofs.Lists.{some_is, none_not, not_both, prefix-shorter, filter-between}
 use Rattle.turn_book.proofs.Seating.{Was, was, out_set, seat_set}
@@ -76,6 +75,7 @@ module _ {S E P : Type 0} (m : Workings S E P) (opening : S) where
           heard = gone.begins;
           stands = l.1;
           looked = λ f h. (let a = known.looked f h in let b = l.2 in omega arith);
+          fronts = known.fronts;
           holds = known.holds;
           idle = known.idle;
           own = λ c h. (l.3 c h, (known.own c h).0);
@@ -95,6 +95,7 @@ module _ {S E P : Type 0} (m : Workings S E P) (opening : S) where
           heard = theirs.heard;
           stands = theirs.stands;
           looked = theirs.looked;
+          fronts = theirs.fronts;
           holds = theirs.holds;
           idle = theirs.idle;
           own = theirs.own;

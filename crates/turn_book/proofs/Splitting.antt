@@ -1,15 +1,13 @@
 -- A seat split off another keeps the rule, for nobody or for a caller
-use Rattle.std.proofs.Common.{◌≡◌, ◌≢◌, ℕ, List, [], ◌∷◌, ◌++◌, length, Bool, true, false, refl, sym, ap, ◌∙◌, subst, ⊎_elim, inl, inr, ◌⊎◌, arith}
+use Rattle.std.proofs.Common.{◌≡◌, ◌≢◌, ℕ, List, [], ◌∷◌, ◌++◌, length, true, false, refl, sym, ap, ◌∙◌, subst, ⊎_elim, inl, inr, ◌⊎◌, arith}
 use Rattle.std.specs.Prelude.{Option, Some, None, nat_eq, is_some, slice_set}
 use mathlib.Core.Option.{some}
 use lib.ListN.{get_elem?}
 use Rattle.atomic_table.specs.Table.{State, Splits}
-use Rattle.atomic_table.proofs.Lists.{at_set, at_snoc, at_last, set_again, at_longer}
+use Rattle.atomic_table.proofs.Lists.{at_set, at_snoc, at_last, at_longer}
 use Rattle.turn_book.specs.declared.view.View.{View}
-use Rattle.turn_book.specs.declared.view.Ended.{Ended}
-use Rattle.turn_book.specs.Histories.{IsPrefix, entries_of, is_in}
-use Rattle.turn_book.specs.Hands.{held_at}
-use Rattle.turn_book.specs.Rule.{Workings, Behind, IsKept, Knows, Seats, IsOut, HasSeat, turn_of}
+use Rattle.turn_book.specs.Histories.{is_in}
+use Rattle.turn_book.specs.Rule.{Workings, Behind, IsKept, Knows, HasSeat}
 use Rattle.turn_book.specs.Views.{ended_at, split_view, made_view}
 use Rattle.turn_book.proofs.Lists.{some_is, none_not, not_both, get_last, in_more, in_less, in_first, filter-none}
 use Rattle.turn_book.proofs.Seating.{Was, was, out_set, seat_set}
@@ -62,6 +60,7 @@ module _ {S E P : Type 0} (m : Workings S E P) (opening : S) where
       heard = known.heard;
       stands = known.stands;
       looked = known.looked;
+      fronts = known.fronts;
       holds = known.holds;
       idle = known.idle;
       own = known.own;
@@ -81,6 +80,7 @@ module _ {S E P : Type 0} (m : Workings S E P) (opening : S) where
           heard = theirs.heard;
           stands = theirs.stands;
           looked = theirs.looked;
+          fronts = theirs.fronts;
           holds = theirs.holds;
           idle = theirs.idle;
           own = theirs.own;
@@ -102,6 +102,7 @@ module _ {S E P : Type 0} (m : Workings S E P) (opening : S) where
       heard = (k.behind.history, refl);
       stands = known.stands;
       looked = λ f h. absurd (none_not f h);
+      fronts = (tt, tt);
       holds = λ p x h. absurd (none_not x h);
       idle = λ h. refl;
       own = λ c is. (k.unmade c (fresh c is) ∙ sym (filter-none (λ e. nat_eq (m.caller e) c) v.seen k.behind.history known.begins (k.unmade c (fresh c is))), k.unmade c (fresh c is));

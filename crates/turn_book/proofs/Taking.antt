@@ -1,11 +1,10 @@
 -- A swap of a turn keeps the rule: the part comes into hand, or the turn was taken
-use Rattle.std.proofs.Common.{◌≡◌, ◌≢◌, ℕ, zero, suc, ◌+◌, ◌<◌, List, [], ◌∷◌, ◌++◌, length, true, false, refl, sym, ap, ◌∙◌, subst, arith, cond, ◌==◌}
-use Rattle.std.specs.Prelude.{Option, Some, None, slice_get, slice_index, slice_set, nat_eq, is_some}
+use Rattle.std.proofs.Common.{◌≡◌, ◌≢◌, ℕ, ◌+◌, ◌<◌, List, [], ◌∷◌, ◌++◌, length, true, false, refl, sym, ap, ◌∙◌, subst, arith, cond, ◌==◌}
+use Rattle.std.specs.Prelude.{Some, None, slice_get, slice_index, slice_set, nat_eq, is_some}
 use mathlib.Core.Option.{some, none}
 use lib.ListN.{get_elem?}
 use Rattle.atomic_table.specs.Table.{State, Me, Step, Act, Valid, stepped, keeps, takes, Allows, carried_after}
 use Rattle.atomic_table.proofs.Lists.{set_else}
-use Rattle.turn_book.specs.declared.view.Held.{Held}
 use Rattle.turn_book.specs.declared.view.View.{View}
 use Rattle.turn_book.specs.Hands.{held_at}
 use Rattle.turn_book.specs.Rule.{Workings, Behind, IsKept, Knows, IsOut, turn_of}
@@ -74,6 +73,7 @@ module _ {S E P : Type 0} (m : Workings S E P) (opening : S) where
       heard = known.heard;
       stands = known.stands;
       looked = known.looked;
+      fronts = known.fronts;
       holds = taker_holds;
       idle = λ no_caller. absurd (called no_caller);
       own = known.own;
@@ -93,6 +93,7 @@ module _ {S E P : Type 0} (m : Workings S E P) (opening : S) where
           heard = theirs.heard;
           stands = theirs.stands;
           looked = theirs.looked;
+          fronts = theirs.fronts;
           holds = λ q y h. holds_still j q y (theirs.holds q y h);
           idle = theirs.idle;
           own = theirs.own;
@@ -177,6 +178,6 @@ module _ {S E P : Type 0} (m : Workings S E P) (opening : S) where
             keeps,
             tt,
             subst (λ l. IsKept m opening (record { words = l; homes = s.homes; views = slice_set s.views id w })) (sym (set-itself s.words (p + 1) 1 one_turn))
-                (view_keeps m opening s k id me.0 w at (refl, refl, refl) (λ p h. h) (λ _. record { opened = known.opened; begins = known.begins; before = known.before; heard = known.heard; stands = known.stands; looked = known.looked; holds = known.holds; idle = known.idle; own = known.own; listed = known.listed; desk = known.desk; blank = known.blank })),
+                (view_keeps m opening s k id me.0 w at (refl, refl, refl) (λ p h. h) (λ _. record { opened = known.opened; begins = known.begins; before = known.before; heard = known.heard; stands = known.stands; looked = known.looked; fronts = known.fronts; holds = known.holds; idle = known.idle; own = known.own; listed = known.listed; desk = known.desk; blank = known.blank })),
             ((refl, refl, refl, refl, refl, refl), (refl, refl, refl, refl, refl, refl), (refl, refl, refl), (λ z. absurd (other z)), λ _. (refl, refl, refl, refl)),
           )

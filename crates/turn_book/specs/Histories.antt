@@ -1,5 +1,5 @@
 -- Histories: lists of entries, each of which is one step
-use Rattle.std.specs.Prelude.{◌≡◌, ℕ, List, [], ◌∷◌, ◌++◌, length, Bool, true, false, Option, Some, None, filter, nat_eq, nat_le, if◌then◌else◌}
+use Rattle.std.specs.Prelude.{◌≡◌, ℕ, List, [], ◌∷◌, ◌++◌, Bool, true, false, Option, Some, None, filter, nat_eq}
 
 module _ {S E : Type 0} (steps : S → E → S → Type 0) where
   -- the entries lead from one state to another, each by one step

@@ -1,5 +1,5 @@
 -- The laws of a machine
-use Rattle.std.specs.Prelude.{◌≡◌, ℕ, ◌≤◌, ◌^◌, List, length, Bool, true, false, slice_get, count_by}
+use Rattle.std.specs.Prelude.{◌≡◌, ℕ, ◌≤◌, ◌^◌, List, length, Bool, true, slice_get, count_by}
 use Rattle.turn_book.specs.Histories.{Runs}
 
 module _ {S E P : Type 0} (opens : S → Type 0) (steps : S → E → S → Type 0) (parts : S → List P) (published : S → List ℕ) (reach : S → E → ℕ → Bool) (has_room : S → E → Type 0) where

@@ -1,10 +1,10 @@
 -- A seat, after a write through the part that it lent: each other slot keeps its value, and what a pen says of its slots stays
-use Rattle.std.proofs.Common.{◌≡◌, ℕ, zero, suc, ◌+◌, ◌≤◌, List, [], ◌∷◌, ◌++◌, Bool, true, false, refl, sym, ap, ◌∙◌, subst, arith, length, append_assoc, append-nil}
+use Rattle.std.proofs.Common.{◌≡◌, ℕ, zero, suc, ◌≤◌, List, [], ◌∷◌, ◌++◌, Bool, true, false, refl, sym, ap, ◌∙◌, subst, arith, length, append_assoc, append-nil}
 use Rattle.std.specs.Prelude.{Option, Some, None, nat_eq, is_some}
 use Rattle.atomic_table.specs.declared.shared.Seat.{Seat}
 use Rattle.atomic_table.specs.Table.{rest}
 use Rattle.turn_book.specs.declared.view.Held.{Held}
-use Rattle.turn_book.specs.Hands.{held_at, slot_at, are_distinct, turned_to, brought, written, ArePaired}
+use Rattle.turn_book.specs.Hands.{slot_at, are_distinct, turned_to, brought, written, ArePaired}
 
 -- the seat, with this slot brought to the front and with this value in it
 abbrev pub lent_with : {P V : Type 0} → Seat P V → ℕ → P → Seat P V

@@ -1,10 +1,10 @@
 -- What each step on the book's words tells the seat that makes it
-use Rattle.std.specs.Prelude.{◌≡◌, ◌≢◌, ℕ, List, [], ◌∷◌, ◌++◌, length, Bool, true, false, Option, Some, None, slice_get, is_some, IfSome}
+use Rattle.std.specs.Prelude.{◌≡◌, ◌≢◌, ℕ, List, [], ◌∷◌, ◌++◌, length, Bool, true, Option, Some, slice_get, is_some, IfSome}
 use Rattle.atomic_table.specs.Table.{Me, Step, rest}
 use Rattle.turn_book.specs.declared.view.Front.{Front}
 use Rattle.turn_book.specs.declared.view.View.{View}
 use Rattle.turn_book.specs.Histories.{Runs, IsPrefix, last_of, entries_of}
-use Rattle.turn_book.specs.Hands.{held_at, held_without, held_after}
+use Rattle.turn_book.specs.Hands.{held_at, held_without}
 use Rattle.turn_book.specs.Rule.{Workings}
 use Rattle.turn_book.specs.Views.{front_at, IsLegal, HoldsRight, HasJustEnded, HasOnlyMade, AddsNoneOfOwn, SamePlace, SameList, SameTurns, SameWords}
 
@@ -51,7 +51,7 @@ module _ {S E P : Type 0} where
       × ((q : ℕ) → is_some (held_at q me'.0.held) ≡ is_some (held_at q me.0.held))
       × (found ≡ st.first → (st.first ≡ length me.0.seen) × (me'.0.misses ≡ me.0.misses) × IfSome entry (λ e. (me'.0.seen ≡ me.0.seen ++ e ∷ []) × ((s : S) → me.0.now ≡ Some s → IfSome me'.0.now (λ t. m.steps s e t))))
       × (found ≢ st.first → (length me'.0.seen ≡ found) × (me'.0.held ≡ me.0.held) × AddsNoneOfOwn m.caller me.0 me'.0
-          × ((had : Front) → last_of me.0.looks ≡ Some had → me'.0.misses ≡ me.0.misses ++ record { had = had; found = front_at found } ∷ []))
+      × ((had : Front) → last_of me.0.looks ≡ Some had → me'.0.misses ≡ me.0.misses ++ record { had = had; found = front_at found } ∷ []))
 
   -- the last front that the seat's loads found
   abbrev pub IsLastLook : Front → View S E P → Type 0

@@ -1,9 +1,10 @@
 -- The rule of a book: one legal history, and what each seat knows of it
-use Rattle.std.specs.Prelude.{◌≡◌, ℕ, ◌+◌, ◌<◌, ◌≤◌, List, [], ◌∷◌, ◌⊎◌, length, Bool, true, false, Option, Some, None, slice_get, slice_index, is_some}
+use Rattle.std.specs.Prelude.{◌≡◌, ℕ, ◌+◌, ◌<◌, ◌≤◌, List, [], ◌∷◌, ◌⊎◌, length, true, false, Some, None, slice_get, slice_index, is_some}
 use mathlib.Core.Option.{some}
 use lib.ListN.{get_elem?}
 use Rattle.atomic_table.specs.Table.{State}
 use Rattle.turn_book.specs.declared.view.Front.{Front}
+use Rattle.turn_book.specs.declared.view.Miss.{Miss}
 use Rattle.turn_book.specs.declared.view.View.{View}
 use Rattle.turn_book.specs.declared.view.Ended.{Ended}
 use Rattle.turn_book.specs.Histories.{Runs, IsPrefix, entries_of, is_in, last_of}
@@ -13,6 +14,16 @@ use Rattle.turn_book.specs.Views.{ended_at}
 -- word 0 is the front, word p + 1 the turn of part p
 abbrev pub turn_of : List ℕ → ℕ → ℕ
 turn_of words p = slice_index words (p + 1)
+
+-- no front is of a generation above this one
+abbrev pub AreNotAbove : ℕ → List Front → Type 0
+AreNotAbove g [] = Unit {0}
+AreNotAbove g (f ∷ fs) = (f.generation ≤ g) × AreNotAbove g fs
+
+-- nor is a front of these misses
+abbrev pub MissNoneAbove : ℕ → List Miss → Type 0
+MissNoneAbove g [] = Unit {0}
+MissNoneAbove g (x ∷ xs) = (x.had.generation ≤ g) × (x.found.generation ≤ g) × MissNoneAbove g xs
 
 -- what a machine is to the rule: its opening states, its steps, the parts of a state and the caller of an entry
 pub record Workings (S E P : Type 0) : Type 1 where
@@ -34,7 +45,7 @@ pub record Behind (S E : Type 0) : Type 0 where
 
 module _ {S E P : Type 0} where
   -- What the seat knows, which is not spent.
-  -- Published words add here: no generation in looks, misses or notes is above the front's; a note of the front's generation has the published value; drafts and knows are the registry's holder's, in place of `blank`.
+  -- Published words add here: in `fronts` the front's generation in place of 0; a note of the front's generation has the published value; drafts and knows are the registry's holder's, in place of `blank`.
   pub record Knows (m : Workings S E P) (opening : S) (r : Behind S E) (words : List ℕ) (id : ℕ) (v : View S E P) : Type 0 where
     pub opened : v.begin ≡ Some opening
     pub begins : IsPrefix v.seen r.history
@@ -43,6 +54,8 @@ module _ {S E P : Type 0} where
     pub stands : (s : S) × (v.now ≡ Some s) × Runs m.steps opening v.seen s
     -- the last front that a load found was no longer than the list
     pub looked : (f : Front) → last_of v.looks ≡ Some f → f.length ≤ length v.seen
+    -- no front that it found is of a generation above the front's
+    pub fronts : AreNotAbove 0 v.looks × MissNoneAbove 0 v.misses
     -- what is held has a taken turn, is with no other seat, and is as the history has it
     pub holds : (p : ℕ) (x : P) → held_at p v.held ≡ Some x → (turn_of words p ≡ 1) × (r.owner p ≡ id) × (slice_get (m.parts r.now) p ≡ Some x)
     -- a seat without a caller holds nothing

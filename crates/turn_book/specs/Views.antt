@@ -1,5 +1,5 @@
 -- What the moves of a seat make of its view
-use Rattle.std.specs.Prelude.{◌≡◌, ℕ, ◌≤◌, List, [], ◌∷◌, ◌++◌, length, Bool, true, false, Option, Some, None, slice_get, nat_eq, nat_le, if◌then◌else◌, IfSome}
+use Rattle.std.specs.Prelude.{◌≡◌, ℕ, List, [], ◌∷◌, length, true, false, Option, Some, None, slice_get, nat_eq, nat_le, if◌then◌else◌, IfSome}
 use Rattle.atomic_table.specs.declared.shared.Seat.{Seat}
 use Rattle.turn_book.specs.declared.view.Front.{Front}
 use Rattle.turn_book.specs.declared.view.View.{View}

@@ -7,10 +7,10 @@ ghost use Rattle.turn_book.specs.Views.{view_of, slots_of, first_view, split_vie
 ghost use Rattle.turn_book.specs.Plays.{IsAsHistoryHas, IsLastLook, LeadsOn, HoldsReach};
 ghost use Rattle.turn_book.specs.Ending.{EndsRight, AllEnded};
 
-use crate::slots::bring;
 use crate::machine::{Entering, Machine, Naming};
 use crate::pen::Pen;
 use crate::plays::{Commit, Cut, CutFor, Give, Glue, Kept, Learn, Look, Take};
+use crate::slots::bring;
 use crate::unload::unload;
 use crate::view::{Front, View};
 use atomic_table::Table;
@@ -28,6 +28,7 @@ pub enum Took {
 }
 
 /// Parts behind turns, and the front of one history.
+#[derive(Drop)]
 pub struct TurnBook<M: Machine> {
     pub(crate) table: Table<
         M::Part,
@@ -180,6 +181,8 @@ impl<M: Machine> TurnBook<M> {
         ensures legal { IsLegal M.opens M.steps (view_of pen.new.seat) }
         ensures holds { HoldsRight M.parts (view_of pen.new.seat) }
         ensures held { (q : ℕ) → is_some (held_at q (view_of pen.new.seat).held) ≡ is_some (held_at q (view_of pen.old.seat).held) }
+        ensures ended { HasJustEnded M.caller (view_of pen.new.seat) }
+        ensures made { HasOnlyMade M.caller (view_of pen.new.seat) }
         ensures looks { (view_of pen.new.seat).looks ≡ (view_of pen.old.seat).looks }
         ensures turns { ((view_of pen.new.seat).took ≡ (view_of pen.old.seat).took) × ((view_of pen.new.seat).found ≡ (view_of pen.old.seat).found) }
         ensures place { SamePlace (view_of pen.old.seat) (view_of pen.new.seat) }

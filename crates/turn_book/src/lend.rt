@@ -6,9 +6,9 @@ ghost use Rattle.turn_book.specs.Lent.{lent_with, lent-distinct, lent-paired};
 ghost use Rattle.turn_book.specs.contracts.pen.Pen.{the_row as pen_row};
 
 use crate::book::TurnBook;
-use crate::slots::part_brought;
 use crate::machine::Machine;
 use crate::pen::Pen;
+use crate::slots::part_brought;
 
 /// The part in hand, lent. What is written through it is what the pen then has in hand, and no other slot changes.
 pub fn part_of<'a, M: Machine>(

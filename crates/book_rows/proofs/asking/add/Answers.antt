@@ -1,5 +1,5 @@
-use Rattle.std.proofs.Common.{◌≡◌, ◌≢◌, ℕ, List, [], false, sym, ap, ◌∙◌, arith}
-use Rattle.std.specs.Prelude.{nat_eq, is_some}
+use Rattle.std.proofs.Common.{◌≡◌, ◌≢◌, [], sym, ap, ◌∙◌, arith}
+use Rattle.std.specs.Prelude.{is_some}
 use Rattle.turn_book.specs.Hands.{held_at, held_without}
 use Rattle.turn_book.proofs.Handing.{bare_without}
 use Rattle.turn_book.proofs.Holding.{held-else}
@@ -12,5 +12,5 @@ returns-clause-bare g c =
     let nothing : held_without k won ≡ [] = c.win.ensures.only ∙ ap (held_without k) c.requires.bare in
     ap (λ v. v.held) c.give.ensures.view
     ∙ bare_without c.add_held-at.new.pen.seat.me.0.held k (λ q t.
-        let other : k ≢ q = λ e. (let no_way : ⊥ = grind arith in no_way) in
-        c.add_held-at.ensures.held q ∙ sym (ap is_some (held-else k q other won)) ∙ ap (λ l. is_some (held_at q l)) nothing)
+    let other : k ≢ q = λ e. (let no_way : ⊥ = grind arith in no_way) in
+    c.add_held-at.ensures.held q ∙ sym (ap is_some (held-else k q other won)) ∙ ap (λ l. is_some (held_at q l)) nothing)

@@ -1,5 +1,5 @@
 use Rattle.std.specs.Prelude.{◌≡◌}
-use Rattle.turn_book.specs.Views.{view_of, SamePlace, SameList}
+use Rattle.turn_book.specs.Views.{view_of, SamePlace}
 use Rattle.book_rows.proofs.asking.win.Given as goal
 
 abbrev pub invariant-loop : goal.invariant-loop

@@ -1,5 +1,5 @@
-use Rattle.std.proofs.Common.{◌≡◌, ◌+◌, ℕ, ◌%◌, ◌^◌, true, arith, subst, sym, refl, ap, ◌∙◌}
-use Rattle.std.specs.Prelude.{◌==◌, Option, Some, None, IfSome, is_some}
+use Rattle.std.proofs.Common.{◌≡◌, ◌+◌, ℕ, ◌%◌, ◌^◌, arith, subst, sym, refl}
+use Rattle.std.specs.Prelude.{◌==◌, Some, IfSome}
 use mathlib.Core.Option.{none}
 use prog.Atomic.{either}
 use Rattle.atomic_table.specs.Table.{step, Allows}
