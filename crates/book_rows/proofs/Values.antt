@@ -1,5 +1,5 @@
 -- The value of a counter in hand, before and after a change
-use Rattle.std.proofs.Common.{◌≡◌, ℕ, ◌+◌, ◌<◌, ◌^◌, List, [], ◌∷◌, ◌++◌, length, true, refl, sym, ap, ◌∙◌, subst, arith, cond}
+use Rattle.std.proofs.Common.{◌≡◌, ℕ, ◌+◌, ◌-◌, ◌<◌, ◌≤◌, ◌^◌, List, [], ◌∷◌, ◌++◌, length, true, false, refl, sym, ap, ◌∙◌, subst, arith, cond}
 use Rattle.std.specs.Prelude.{Some, IfSome, is_some, nat_eq, slice_get, slice_set}
 use Rattle.turn_book.specs.declared.view.Front.{Front}
 use Rattle.turn_book.specs.declared.view.View.{View}
@@ -9,9 +9,9 @@ use Rattle.turn_book.specs.Views.{IsLegal, HoldsRight}
 use Rattle.turn_book.specs.Plays.{LeadsOn}
 use Rattle.turn_book.proofs.Lists.{some_is, has, filter-append}
 use Rattle.book_rows.specs.declared.machine.Change.{Change}
-use Rattle.book_rows.specs.declared.machine.Change.TheVariants.{Add}
+use Rattle.book_rows.specs.declared.machine.Change.TheVariants.{Add, Move}
 use Rattle.book_rows.specs.declared.machine.Counts.{Counts}
-use Rattle.book_rows.specs.Counting.{Counted, caller_of, changes-counted, get-same}
+use Rattle.book_rows.specs.Counting.{Counted, caller_of, changes-counted, get-same, get-other}
 
 abbrev pub Seen : Type 0
 Seen = View Counts Change ℕ
@@ -58,3 +58,28 @@ own-snoc c l e is = filter-append (λ x. nat_eq (caller_of x) c) l (e ∷ []) �
   where
     filter-own : nat_eq (caller_of e) c ≡ true → entries_of caller_of c (e ∷ []) ≡ e ∷ []
     filter-own t = ap (λ b. cond b (e ∷ []) []) t
+
+-- a number that is there and whose sum fits can be moved from one counter in hand to another
+pub may_move : (v : Seen) (had : Front) (c a b n x y : ℕ) → HasCount v → HasLegal v → nat_eq a b ≡ false → held_at a v.held ≡ Some x → held_at b v.held ≡ Some y → n ≤ x → y + n < 2 ^ 64 → had.length < 2 ^ 40
+    → LeadsOn Counted had v (Move c a b n)
+may_move v had c a b n x y right legal apart held held' low small room s (count, now) =
+    let changes = changes_are v s legal now in
+    (record { counters = slice_set (slice_set s.counters a (x - n)) b (y + n); changes = s.changes + 1 }, ((x, y, apart, counter_is v s a x right now held, counter_is v s b y right now held', low, small, refl), omega arith, refl))
+
+-- both counters in hand have their values, once the change was moved
+pub moved_are : (v w : Seen) (c a b n x y : ℕ) → HasCount v → HasLegal v → HasCount w → HasLegal w → held_at a v.held ≡ Some x → held_at b v.held ≡ Some y → is_some (held_at a w.held) ≡ true → is_some (held_at b w.held) ≡ true
+    → IfSome v.now (λ s. IfSome w.now (λ t. Counted s (Move c a b n) t)) → (held_at a w.held ≡ Some (x - n)) × (held_at b w.held ≡ Some (y + n))
+moved_are v w c a b n x y right legal right' legal' held held' still still' follows =
+    let (o, s, _, _, now, _) = legal in
+    let (o', t, _, _, now', _) = legal' in
+    let step : Counted s (Move c a b n) t = subst (λ p. IfSome p (λ t. Counted s (Move c a b n) t)) now' (subst (λ p. IfSome p (λ s. IfSome w.now (λ t. Counted s (Move c a b n) t))) now follows) in
+    let (x', y', apart, at, bt, _, _, is) = step.0 in
+    let same : x ≡ x' = some_is x x' (sym (counter_is v s a x right now held) ∙ at) in
+    let same' : y ≡ y' = some_is y y' (sym (counter_is v s b y right now held') ∙ bt) in
+    let (z, there) = has (held_at a w.held) still in
+    let (z', there') = has (held_at b w.held) still' in
+    let back : nat_eq b a ≡ false = grind arith in
+    let first = slice_set s.counters a (x' - n) in
+    let value : slice_get t.counters a ≡ Some (x' - n) = ap (λ l. slice_get l a) is ∙ get-other first b a (y' + n) back ∙ get-same s.counters a (x' - n) x' at in
+    let value' : slice_get t.counters b ≡ Some (y' + n) = ap (λ l. slice_get l b) is ∙ get-same first b (y' + n) y' (get-other s.counters a b (x' - n) apart ∙ bt) in
+    (there ∙ sym (counter_is w t a z right' now' there) ∙ value ∙ ap (λ k. Some (k - n)) (sym same), there' ∙ sym (counter_is w t b z' right' now' there') ∙ value' ∙ ap (λ k. Some (k + n)) (sym same'))

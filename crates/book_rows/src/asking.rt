@@ -85,7 +85,7 @@ fn win<R: Wait>(rt: &R, book: &TurnBook<Counting>, pen: &mut Pen<Counting>, part
 }
 
 /// The most changes that a row of counters has.
-const MOST: u64 = 1 << 40;
+pub(crate) const MOST: u64 = 1 << 40;
 
 /// Why a change was not made.
 #[derive(Clone, Copy, Debug, PartialEq, Eq)]

@@ -2,13 +2,14 @@
 use crate::asking::{Refused, add, add_once};
 use crate::machine::Counting;
 use crate::threads::opened;
-use std::test::Fail;
-use turn_book::{Front, Took, TurnBook};
+use turn_book::{Front, NoMemory, Took, TurnBook};
 
 #[test]
-fn a_turn_is_found_taken_until_it_is_given_back(rt: HostRuntime) -> Result<(), Fail> {
+fn a_turn_is_found_taken_until_it_is_given_back(rt: HostRuntime) -> Result<(), NoMemory> {
     let alloc = rt.alloc();
-    let parts = vec![in alloc; 0u64, 0, 0, 0]?;
+    let Ok(parts) = vec![in alloc; 0u64, 0, 0, 0] else {
+        return Err(NoMemory);
+    };
     let (book, mut desk) = TurnBook::<Counting>::make(alloc, parts, Vec::new(alloc))?;
     let mut one = book.split(&mut desk, Some(1));
     let mut two = book.split(&mut desk, Some(2));
@@ -23,7 +24,7 @@ fn a_turn_is_found_taken_until_it_is_given_back(rt: HostRuntime) -> Result<(), F
 }
 
 #[test]
-fn a_change_is_committed_and_left_by_the_book(rt: HostRuntime) -> Result<(), Fail> {
+fn a_change_is_committed_and_left_by_the_book(rt: HostRuntime) -> Result<(), NoMemory> {
     let (book, mut desk) = opened(rt.alloc(), 5, 7)?;
     let mut pen = book.split(&mut desk, Some(9));
     let first = add(&rt, &book, &mut pen, 9, 0, 10);
@@ -45,7 +46,7 @@ fn a_change_is_committed_and_left_by_the_book(rt: HostRuntime) -> Result<(), Fai
 }
 
 #[test]
-fn a_note_carries_what_was_seen(rt: HostRuntime) -> Result<(), Fail> {
+fn a_note_carries_what_was_seen(rt: HostRuntime) -> Result<(), NoMemory> {
     let (book, mut desk) = opened(rt.alloc(), 0, 0)?;
     let mut one = book.split(&mut desk, Some(1));
     let two = book.split(&mut desk, Some(2));
@@ -62,7 +63,7 @@ fn a_note_carries_what_was_seen(rt: HostRuntime) -> Result<(), Fail> {
 }
 
 #[test]
-fn of_two_commits_the_later_loses_its_first_exchange(rt: HostRuntime) -> Result<(), Fail> {
+fn of_two_commits_the_later_loses_its_first_exchange(rt: HostRuntime) -> Result<(), NoMemory> {
     let (book, mut desk) = opened(rt.alloc(), 0, 0)?;
     let mut one = book.split(&mut desk, Some(1));
     let mut two = book.split(&mut desk, Some(2));

@@ -4,6 +4,7 @@
 mod asking;
 mod calls;
 mod machine;
+mod moving;
 mod threads;
 
 pub use asking::{Refused, add, add_once, change};

@@ -4,23 +4,24 @@ ghost use Rattle.turn_book.specs.Views.{view_of, first_view};
 
 use crate::asking::add;
 use crate::machine::Counting;
-use std::alloc::{AllocError, Global};
+use std::alloc::Global;
 use std::sync::Wait;
-use std::test::Fail;
 use std::thread::join;
-use turn_book::{Pen, TurnBook};
+use turn_book::{NoMemory, Pen, TurnBook};
 
 /// A book over two counters, and the desk's pen.
 pub(crate) fn opened(
     alloc: Global,
     first: u64,
     second: u64,
-) -> Result<(TurnBook<Counting>, Pen<Counting>), AllocError>
+) -> Result<(TurnBook<Counting>, Pen<Counting>), NoMemory>
     ensures book { IfOk result (λ made. made.1.seat.table_id ≡ made.0.table.shared.table_id) }
     ensures count { IfOk result (λ made. made.0.table.shared.table_id.slots ≡ 2) }
     ensures desk { IfOk result (λ made. ((view_of made.1.seat).is_desk ≡ true) × ((view_of made.1.seat).caller ≡ None) × ((view_of made.1.seat).made ≡ []) × ((view_of made.1.seat).ended ≡ []) × ((view_of made.1.seat).held ≡ [])) }
 {
-    let parts = vec![in alloc; first, second]?;
+    let Ok(parts) = vec![in alloc; first, second] else {
+        return Err(NoMemory);
+    };
     TurnBook::<Counting>::make(alloc, parts, Vec::new(alloc))
 }
 
@@ -47,7 +48,7 @@ fn count_up<R: Wait>(
 }
 
 #[test]
-fn two_threads_make_a_thousand_entries_each(rt: HostRuntime) -> Result<(), Fail> {
+fn two_threads_make_a_thousand_entries_each(rt: HostRuntime) -> Result<(), NoMemory> {
     let (book, mut desk) = opened(rt.alloc(), 0, 0)?;
     let one = book.split(&mut desk, Some(1));
     let two = book.split(&mut desk, Some(2));

@@ -18,6 +18,10 @@ use std::alloc::{AllocError, Global};
 use std::marker::Brand;
 use std::snapshot::Snapshot;
 
+/// Want of memory.
+#[derive(Clone, Copy, Debug, PartialEq, Eq)]
+pub struct NoMemory;
+
 /// Whether a turn was taken.
 #[derive(Clone, Copy, Debug, PartialEq, Eq)]
 pub enum Took {
@@ -57,7 +61,7 @@ impl<M: Machine> TurnBook<M> {
         alloc: Global,
         parts: Vec<M::Part>,
         words: Vec<u64>,
-    ) -> Result<(TurnBook<M>, Pen<M>), AllocError>
+    ) -> Result<(TurnBook<M>, Pen<M>), NoMemory>
         requires opens { M.opens (M.opening parts.items) }
         requires parts { M.parts (M.opening parts.items) ≡ parts.items }
         requires words { words.items ≡ [] }
@@ -67,11 +71,15 @@ impl<M: Machine> TurnBook<M> {
         ensures pen { IfOk result (λ made. view_of made.1.seat ≡ first_view (M.opening parts.items)) }
     {
         let key = Snapshot::of(&parts);
-        let room = Vec::with_capacity(alloc, parts.len())?;
-        let row = zeros(alloc, parts.len() + 1)?;
+        let Ok(room) = Vec::with_capacity(alloc, parts.len()) else {
+            return Err(NoMemory);
+        };
+        let Ok(row) = zeros(alloc, parts.len() + 1) else {
+            return Err(NoMemory);
+        };
         match Table::new(alloc, row.as_slice(), parts, &key) {
             Ok((table, seat)) => Ok((TurnBook { table, room }, Pen { seat })),
-            Err(_) => Err(AllocError),
+            Err(_) => Err(NoMemory),
         }
     }
 

@@ -11,6 +11,7 @@ use crate::pen::Pen;
 use crate::slots::part_brought;
 
 /// The part in hand, lent. What is written through it is what the pen then has in hand, and no other slot changes.
+#[inline]
 pub fn part_of<'a, M: Machine>(
     pen: &'a mut Pen<M>,
     book: &'a TurnBook<M>,
@@ -28,6 +29,7 @@ impl<M: Machine> TurnBook<M> {
     /// The part in hand, lent: the same as `part_of`, with the book first.
     ///
     /// A caller follows what is written through it where the pen stands first, as in `part_of`.
+    #[inline]
     pub fn lend<'a>(&'a self, pen: &'a mut Pen<M>, part: u32) -> &'a mut M::Part
         requires book { pen.old.seat.table_id ≡ self.now.table.shared.table_id }
         requires held { is_some (held_at part (view_of pen.old.seat).held) ≡ true }

@@ -52,8 +52,8 @@ mod slots;
 mod unload;
 mod view;
 
-pub use book::{Took, TurnBook};
+pub use book::{NoMemory, Took, TurnBook};
 pub use lend::part_of;
-pub use machine::{Entering, Machine, Naming};
-pub use pen::{Hand, Pen};
+pub use machine::{Entering, Machine};
+pub use pen::Pen;
 pub use view::Front;

@@ -6,7 +6,7 @@ use crate::view::View;
 use atomic_table::Seat;
 
 /// A seat at the book's table.
-pub type Hand<M> = Seat<
+pub(crate) type Hand<M> = Seat<
     <M as Machine>::Part,
     View<<M as Machine>::State, <M as Machine>::Entry, <M as Machine>::Part>,
 >;

@@ -12,11 +12,13 @@ use crate::pen::Hand;
 use atomic_table::Seat;
 
 /// The slot comes to the front of those that the seat has in hand, where it is one of them.
+#[inline]
 pub(crate) fn bring<S, V>(seat: &mut Seat<S, V>, slot: usize)
     ensures { (seat.new.table_id ≡ seat.old.table_id) × (seat.new.id ≡ seat.old.id) × (seat.new.me ≡ (seat.old.me.0, brought slot seat.old.me.1)) }
 {}
 
 /// The part in hand, lent by the seat.
+#[inline]
 pub(crate) fn part_brought<'a, M: Machine>(
     hand: &'a mut Hand<M>,
     book: &'a TurnBook<M>,

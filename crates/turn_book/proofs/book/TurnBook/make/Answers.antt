@@ -15,7 +15,7 @@ new-requires g c =
     let ps = c.args.parts.items in
     let ws = c.as_slice.result.now in
     let count : c.len-2.result ≡ length ps = (let ok = c.args.parts.ok in let l = c.len-2.ensures in grind arith) in
-    let zeros : ws ≡ replicate (length ps + 1) 0 = c.as_slice.ensures.value ∙ c.in_ok-row.ensures ∙ ap (λ k. replicate {A = ℕ} (k + 1) 0) count in
+    let zeros : ws ≡ replicate (length ps + 1) 0 = c.as_slice.ensures.value ∙ c.in-Ok-zeros.ensures ∙ ap (λ k. replicate {A = ℕ} (k + 1) 0) count in
     let key : c.of-key.result.value.items ≡ ps = ap (λ v. v.items) c.of-key.ensures in
     subst (λ ks. IsKept w (m.opening ks) (opening ws ps (first_view (m.opening ks)))) (sym key)
     (begun w (m.opening ps) ps ws c.requires.opens c.requires.parts
