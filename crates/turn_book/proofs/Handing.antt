@@ -1,0 +1,53 @@
+-- What a pen says of its slots stays when parts are taken, given and committed
+use Rattle.std.proofs.Common.{◌≡◌, ◌≢◌, ℕ, List, [], ◌∷◌, true, false, refl, sym, ap, ◌∙◌, subst, arith}
+use Rattle.std.specs.Prelude.{Some, nat_eq, nat_lt, is_some}
+use Rattle.atomic_table.specs.Table.{rest}
+use Rattle.turn_book.specs.declared.view.Held.{Held}
+use Rattle.turn_book.specs.Hands.{held_at, held_without, slot_at, are_distinct, brought, ArePaired, AreBelow}
+use Rattle.turn_book.specs.Lent.{slot_here, rest-brought}
+use Rattle.turn_book.proofs.Lists.{not_both, has}
+use Rattle.turn_book.proofs.Holding.{held-else, held-gone}
+
+module _ {P : Type 0} where
+  -- a pen that holds no part has no slot in hand
+  pub no_slots : (hs : List (Held P)) (cs : List (ℕ × P)) → hs ≡ [] → ArePaired hs cs → cs ≡ []
+  no_slots hs [] bare pair = refl
+  no_slots hs (c ∷ cs) bare pair = absurd (not_both (is_some (slot_at c.0 (c ∷ cs))) (ap is_some (slot_here c.0 c.1 cs)) (pair c.0 ∙ ap (λ l. is_some (held_at c.0 l)) bare))
+
+  -- a list in which no part is held is empty
+  pub none_held : (hs : List (Held P)) → ((q : ℕ) → is_some (held_at q hs) ≡ false) → hs ≡ []
+  none_held [] f = refl
+  none_held (h ∷ hs) f = absurd (not_both (is_some (held_at h.part (h ∷ hs))) (let t : nat_eq h.part h.part ≡ true = grind arith in ap (λ b. is_some (elim b [ true ↦ Some h.value | false ↦ held_at h.part hs ])) t) (f h.part))
+
+  -- where nothing but a part is held, nothing is left without it
+  pub bare_without : (hs : List (Held P)) (p : ℕ) → ((q : ℕ) → nat_eq p q ≡ false → is_some (held_at q hs) ≡ false) → held_without p hs ≡ []
+  bare_without hs p f = none_held (held_without p hs) (λ q. elim (nat_eq p q) as (λ b. nat_eq p q ≡ b → is_some (held_at q (held_without p hs)) ≡ false) [
+    | true ↦ λ t. (let same : p ≡ q = grind arith in subst (λ r. is_some (held_at r (held_without p hs)) ≡ false) same (ap is_some (held-gone p hs)))
+    | false ↦ λ t. (let other : p ≢ q = λ e. (let no_way : ⊥ = grind arith in no_way) in ap is_some (held-else p q other hs) ∙ f q t)
+  ] refl)
+
+  -- a part that is held is in hand
+  pub in_hand : (hs : List (Held P)) (cs : List (ℕ × P)) (p : ℕ) → ArePaired hs cs → is_some (held_at p hs) ≡ true → (x : P) × (slot_at p cs ≡ Some x)
+  in_hand hs cs p pair h = has (slot_at p cs) (pair p ∙ h)
+
+  pub given-paired : (hs : List (Held P)) (cs : List (ℕ × P)) (p : ℕ) (x : P) → are_distinct cs ≡ true → ArePaired hs cs → slot_at p cs ≡ Some x → ArePaired (held_without p hs) (rest (brought p cs))
+  given-paired hs cs p x d pair is q =
+      let r = rest-brought p cs x d is in
+      elim (nat_eq p q) as (λ b. nat_eq p q ≡ b → is_some (slot_at q (rest (brought p cs))) ≡ is_some (held_at q (held_without p hs))) [
+        | true ↦ λ t.
+            let same : p ≡ q = grind arith in
+            subst (λ n. is_some (slot_at n (rest (brought p cs))) ≡ is_some (held_at n (held_without p hs))) same (r.0 ∙ sym (ap is_some (held-gone p hs)))
+        | false ↦ λ t.
+            let other : p ≢ q = λ e. (let no_way : ⊥ = grind arith in no_way) in
+            ap is_some (r.2 q t) ∙ pair q ∙ sym (ap is_some (held-else p q other hs))
+      ] refl
+
+  pub given-below : (n : ℕ) (hs : List (Held P)) (p : ℕ) → AreBelow n hs → AreBelow n (held_without p hs)
+  given-below n hs p low q h = elim (nat_eq p q) as (λ b. nat_eq p q ≡ b → nat_lt q n ≡ true) [
+    | true ↦ λ t.
+        let same : p ≡ q = grind arith in
+        absurd (not_both (is_some (held_at q (held_without p hs))) h (subst (λ r. is_some (held_at r (held_without p hs)) ≡ false) same (ap is_some (held-gone p hs))))
+    | false ↦ λ t.
+        let other : p ≢ q = λ e. (let no_way : ⊥ = grind arith in no_way) in
+        low q (sym (ap is_some (held-else p q other hs)) ∙ h)
+  ] refl

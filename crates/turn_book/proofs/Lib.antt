@@ -1,0 +1,12 @@
+pub mod Lists
+pub mod Holding
+pub mod Seating
+pub mod Looking
+pub mod Beginning
+pub mod Taking
+pub mod Giving
+pub mod Committing
+pub mod Closing
+pub mod Joining
+pub mod Splitting
+pub mod Handing
