@@ -4,8 +4,6 @@
 #[cfg(test)]
 mod ioapic;
 #[cfg(test)]
-mod lapic;
-#[cfg(test)]
 mod local_apic;
 #[cfg(test)]
 mod messages;
