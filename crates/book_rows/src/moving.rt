@@ -97,8 +97,13 @@ fn parts_are_taken_and_given_in_any_order(rt: HostRuntime) -> Result<(), NoMemor
     assert!(rt; there == Ok(0) && back == Ok(1));
     book.give(&mut pen, 1);
     book.give(&mut pen, 0);
-    book.join(&mut desk, pen);
-    let (parts, length) = book.close(desk);
-    assert!(rt; length == 2 && parts.as_slice() == [6, 7].as_slice());
+    let mut other = book.split(&mut desk, Some(2));
+    let first = book.take(&mut other, 0);
+    assert!(rt; first == Took::Got);
+    let left = read(&book, &mut other, 0);
+    let second = book.take(&mut other, 1);
+    assert!(rt; second == Took::Got);
+    let right = read(&book, &mut other, 1);
+    assert!(rt; left == 6 && right == 7);
     Ok(())
 }

@@ -87,6 +87,10 @@ abbrev pub put_calls : List Call → Result (List Call) ℕ → Result (List Cal
 put_calls cs (Ok ds) = Ok (cs ++ ds)
 put_calls cs (Err m) = Err m
 
+pub put_none : (r : Result (List Call) ℕ) → put_calls [] r ≡ r
+put_none (Ok ds) = refl
+put_none (Err m) = refl
+
 put_call : (cs : List Call) (call : Call) (n : ℕ) (r : Result (List Call) ℕ) → put_calls (cs ++ call ∷ []) r ≡ put_calls cs (with_call n (Some call) r)
 put_call cs call n (Ok ds) = ap Ok (append_assoc cs (call ∷ []) ds)
 put_call cs call n (Err m) = refl

@@ -8,6 +8,7 @@ use Rattle.irq_base.specs.Text.{line_cause_text}
 use Rattle.irqboard.specs.Lines.{same_text}
 use Rattle.irqboard.specs.SmallForm.{script_of}
 use Rattle.irqboard.specs.Board.{opening, history}
+use Rattle.irqboard.specs.Scripts.{script_text}
 use Rattle.irqboard.specs.Transcript.{transcript_text}
 use Rattle.irqboard.specs.Input.{HasRead}
 use Rattle.irqboard.specs.declared.outcome.Outcome.{Outcome}
@@ -44,9 +45,13 @@ ReadsRightly old new (TooLong bytes) = (16777216 < bytes) × HasRead old new (λ
 ReadsRightly old new Usage = new ≡ old
 ReadsRightly old new _ = HasRead old new (λ n. n ≤ 16777216)
 
--- a script that was read whole
+-- the input is the script of these calls, by its lines and as a text, and was read whole
+abbrev pub IsScriptOf : List Call → List ℕ → Option (List ℕ) → Type 0
+IsScriptOf calls input left = (script_of input ≡ Ok calls) × (input ≡ script_text calls) × (left ≡ Some [])
+
+-- the input is a script, and was read whole
 abbrev pub IsScript : List ℕ → Option (List ℕ) → Type 0
-IsScript input left = (calls : List Call) × (script_of input ≡ Ok calls) × (left ≡ Some [])
+IsScript input left = (calls : List Call) × IsScriptOf calls input left
 
 -- what an answer tells of the input, where the source tells it: that it was read whole, and is a script, or is outside the form
 -- first at that line

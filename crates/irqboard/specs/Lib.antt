@@ -7,3 +7,4 @@ pub mod Faults
 pub mod Transcript
 pub mod Board
 pub mod Answers
+pub mod Scripts

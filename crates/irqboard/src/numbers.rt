@@ -1,7 +1,8 @@
 //! Numbers of scripts and transcripts.
 ghost use Rattle.std.specs.Prelude.{◌≡◌, ◌++◌, ◌<◌, ◌≤◌, length, IfSome, OnOk};
+ghost use Rattle.std.specs.Fmt.{decimal};
 ghost use Rattle.std.specs.String.{string_bytes};
-ghost use Rattle.irqboard.specs.Numbers.{hex_digit, hex_digits, hex_places, hex_text, hex_value, hex_from, read_hex, decimal_value, decimal_from, read_byte, value_width};
+ghost use Rattle.irqboard.specs.Numbers.{hex_digit, hex_digits, hex_places, hex_text, hex_value, hex_from, read_hex, decimal_value, decimal_from, if_byte, read_byte, value_width};
 
 use std::alloc::AllocError;
 
@@ -88,8 +89,10 @@ fn hex_number(digits: &[u8]) -> Option<u64>
 
 /// The number whose spelling the word is: lower-case hexadecimal with at least `width` digits, and with more of them only
 /// where the first is not 0.
+#[tactic(auto, using(crate::proofs::Spellings::hex_rules))]
 pub fn read_hex(word: &[u8], width: usize) -> Option<u64>
-    ensures { result ≡ read_hex width word.now }
+    ensures number { result ≡ read_hex width word.now }
+    ensures spelled { IfSome result (λ n. hex_text width n ≡ word.now) }
 {
     let is_short = word.len() < width;
     if is_short || word.len() > 16 || (word.len() > width && word[0] == b'0') {
@@ -122,17 +125,25 @@ fn decimal_number(digits: &[u8]) -> Option<u32>
     Some(number)
 }
 
+// The number, where it is below 256.
+fn byte_of(number: Option<u32>) -> Option<u8>
+    ensures { result ≡ if_byte number }
+{
+    match number {
+        Some(n) if n < 256 => Some(n as u8),
+        _ => None,
+    }
+}
+
 /// The number below 256 whose decimal spelling the word is, without leading zeros.
+#[tactic(auto, using(crate::proofs::Spellings::byte_rules))]
 pub fn read_byte(word: &[u8]) -> Option<u8>
-    ensures { result ≡ read_byte word.now }
+    ensures number { result ≡ read_byte word.now }
+    ensures spelled { IfSome result (λ n. decimal n ≡ word.now) }
 {
     if word.is_empty() || word.len() > 3 || (word.len() > 1 && word[0] == b'0') {
-        return None;
-    }
-    let number = decimal_number(word)?;
-    if number < 256 {
-        Some(number as u8)
-    } else {
         None
+    } else {
+        byte_of(decimal_number(word))
     }
 }

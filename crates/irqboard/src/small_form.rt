@@ -1,8 +1,10 @@
 //! The small form of scripts.
-ghost use Rattle.std.specs.Prelude.{◌≡◌, ◌<◌, ◌≤◌, All, length, IsTrue, IfSome, IfOk, IfErr, Ok, Err, Some};
+ghost use Rattle.std.specs.Prelude.{◌≡◌, ◌<◌, ◌≤◌, ◌∷◌, ◌++◌, codes, All, length, IsTrue, IfSome, IfOk, IfErr, Ok, Err, Some};
 ghost use Rattle.irqboard.specs.Lines.{cut_at, ended_lines, is_ended, two_words, three_words};
 ghost use Rattle.irqboard.specs.SmallForm.{is_built, within, msi_call, store_call, out_call, in_call, numbered_call, bare_call, command_call, actor_call, call_of, actors_from, script_of};
 ghost use Rattle.irqboard.specs.Faults.{SaysBad};
+ghost use Rattle.irqboard.specs.Transcript.{call_text};
+ghost use Rattle.irqboard.specs.Scripts.{actor_text, actor_lines, script_text};
 
 use crate::lines::{cut, three_words, two_words};
 use crate::numbers::{read_byte, read_hex, value_width};
@@ -59,7 +61,8 @@ fn word16(number: u64) -> Option<u16>
 
 // `ADDR PAYLOAD`
 fn msi_call(numbers: &[u8]) -> Option<Call>
-    ensures { result ≡ msi_call (two_words numbers.now) }
+    ensures call { result ≡ msi_call (two_words numbers.now) }
+    ensures spelled { IfSome result (λ call. codes "msi " ++ numbers.now ≡ call_text call) }
 {
     let (address, payload) = two_words(numbers)?;
     let address = read_hex(address, 8)?;
@@ -69,7 +72,8 @@ fn msi_call(numbers: &[u8]) -> Option<Call>
 
 // `ADDR LEN VALUE`
 fn store_call(numbers: &[u8]) -> Option<Call>
-    ensures { result ≡ store_call (three_words numbers.now) }
+    ensures call { result ≡ store_call (three_words numbers.now) }
+    ensures spelled { IfSome result (λ call. codes "store " ++ numbers.now ≡ call_text call) }
 {
     let (address, len, value) = three_words(numbers)?;
     let address = read_hex(address, 8)?;
@@ -84,7 +88,8 @@ fn store_call(numbers: &[u8]) -> Option<Call>
 
 // `PORT LEN VALUE`
 fn out_call(numbers: &[u8]) -> Option<Call>
-    ensures { result ≡ out_call (three_words numbers.now) }
+    ensures call { result ≡ out_call (three_words numbers.now) }
+    ensures spelled { IfSome result (λ call. codes "out " ++ numbers.now ≡ call_text call) }
 {
     let (port, len, value) = three_words(numbers)?;
     let port = word16(read_hex(port, 4)?)?;
@@ -95,7 +100,8 @@ fn out_call(numbers: &[u8]) -> Option<Call>
 
 // `PORT LEN`
 fn in_call(numbers: &[u8]) -> Option<Call>
-    ensures { result ≡ in_call (two_words numbers.now) }
+    ensures call { result ≡ in_call (two_words numbers.now) }
+    ensures spelled { IfSome result (λ call. codes "in " ++ numbers.now ≡ call_text call) }
 {
     let (port, len) = two_words(numbers)?;
     let port = word16(read_hex(port, 4)?)?;
@@ -104,8 +110,10 @@ fn in_call(numbers: &[u8]) -> Option<Call>
 }
 
 // A command with numbers behind it.
+#[tactic(auto, using(crate::proofs::Wholes::text_rules))]
 fn numbered_call(command: &[u8], numbers: &[u8]) -> Option<Call>
-    ensures { result ≡ numbered_call command.now numbers.now }
+    ensures call { result ≡ numbered_call command.now numbers.now }
+    ensures spelled { IfSome result (λ call. command.now ++ 32 ∷ numbers.now ≡ call_text call) }
 {
     if command == b"msi".as_slice() {
         msi_call(numbers)
@@ -121,8 +129,10 @@ fn numbered_call(command: &[u8], numbers: &[u8]) -> Option<Call>
 }
 
 // A command of one word.
+#[tactic(auto, using(crate::proofs::Wholes::text_rules))]
 fn bare_call(command: &[u8]) -> Option<Call>
-    ensures { result ≡ bare_call command.now }
+    ensures call { result ≡ bare_call command.now }
+    ensures spelled { IfSome result (λ call. command.now ≡ call_text call) }
 {
     if command == b"ack".as_slice() {
         Some(Call::Ack)
@@ -137,7 +147,8 @@ fn bare_call(command: &[u8]) -> Option<Call>
 
 // A command with its numbers.
 fn command_call(text: &[u8]) -> Option<Call>
-    ensures { result ≡ command_call text.now (cut_at 32 text.now) }
+    ensures call { result ≡ command_call text.now (cut_at 32 text.now) }
+    ensures spelled { IfSome result (λ call. text.now ≡ call_text call) }
 {
     match cut(text, b' ') {
         None => bare_call(text),
@@ -146,8 +157,10 @@ fn command_call(text: &[u8]) -> Option<Call>
 }
 
 // A processor's name, and its command.
+#[tactic(auto, using(crate::proofs::Wholes::text_rules))]
 fn actor_call(line: &[u8]) -> Option<Call>
-    ensures { result ≡ actor_call (cut_at 32 line.now) }
+    ensures call { result ≡ actor_call (cut_at 32 line.now) }
+    ensures spelled { IfSome result (λ call. line.now ≡ actor_text call) }
 {
     match cut(line, b' ') {
         None => None,
@@ -165,6 +178,7 @@ fn actor_call(line: &[u8]) -> Option<Call>
 pub fn call_of(line: &[u8]) -> Option<Call>
     ensures call { result ≡ call_of line.now }
     ensures built { IfSome result (λ call. IsTrue (is_built call)) }
+    ensures spelled { IfSome result (λ call. line.now ≡ actor_text call) }
 {
     let call = actor_call(line)?;
     if is_built(&call) { Some(call) } else { None }
@@ -175,6 +189,7 @@ fn actors(alloc: Global, bytes: &[u8]) -> Result<Vec<Call>, ScriptFault>
     ensures found { IfOk result (λ v. actors_from 3 (ended_lines bytes.now) (is_ended bytes.now) ≡ Ok v.items) }
     ensures built { IfOk result (λ v. All (λ call. IsTrue (is_built call)) v.items) }
     ensures few { IfOk result (λ v. length v.items ≤ 1000000) }
+    ensures spelled { IfOk result (λ v. bytes.now ≡ actor_lines v.items ++ codes "end\n") }
     ensures bad { IfErr result (SaysBad (actors_from 3 (ended_lines bytes.now) (is_ended bytes.now))) }
 {
     let mut calls = Vec::new(alloc);
@@ -209,6 +224,7 @@ pub fn parse(alloc: Global, bytes: &[u8]) -> Result<Vec<Call>, ScriptFault>
     ensures found { IfOk result (λ v. script_of bytes.now ≡ Ok v.items) }
     ensures built { IfOk result (λ v. All (λ call. IsTrue (is_built call)) v.items) }
     ensures few { IfOk result (λ v. length v.items ≤ 1000000) }
+    ensures spelled { IfOk result (λ v. bytes.now ≡ script_text v.items) }
     ensures bad { IfErr result (SaysBad (script_of bytes.now)) }
 {
     let Some((version, lines)) = cut(bytes, b'\n') else {

@@ -2,4 +2,3 @@ pub mod Registers
 pub mod Priority
 pub mod Messages
 pub mod Offsets
-pub mod Laws

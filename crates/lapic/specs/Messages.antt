@@ -15,6 +15,7 @@ use Rattle.lapic.specs.declared.outcome.Shorthand.TheVariants.{Field, OwnOnly, A
 use Rattle.lapic.specs.Registers.{LocalApic, is_enabled}
 use Rattle.lapic.specs.Priority.{ppr_of}
 
+-- whether a message is a non-maskable interrupt
 abbrev pub is_nmi : Mode → Bool
 is_nmi Nmi = true
 is_nmi _ = false
@@ -26,7 +27,7 @@ is_taken Lowest = true
 is_taken Nmi = true
 is_taken _ = false
 
--- a vector is put into a set or taken out of it
+-- a vector is put into a set, or taken out of it
 abbrev pub with_member : Numbers → ℕ → Bool → Numbers
 with_member s n true = set.insert s n
 with_member s n false = set.remove s n

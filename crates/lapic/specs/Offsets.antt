@@ -32,6 +32,7 @@ value_of a register = reset_of register
 abbrev pub kept : Register → ℕ → ℕ
 kept register value = bit_and value (row_for register).writable
 
+-- the APIC with other registers
 abbrev pub with_registers : LocalApic → Registers → LocalApic
 with_registers a registers = record a { registers = registers }
 
@@ -56,26 +57,29 @@ effect_of a Eoi value = Ended (greatest_vector a.isr)
 effect_of a IcrLow value = Send (ipi_of (kept IcrLow value) a.registers.icr_high)
 effect_of a _ value = Plain
 
--- a load at an offset: another offset reads 0
+-- the value of a register, or 0 where there is none
 abbrev pub loaded : LocalApic → Option Register → ℕ
 loaded a (Some register) = value_of a register
 loaded a None = 0
 
+-- a load at an offset
 abbrev pub load_of : LocalApic → ℕ → ℕ
 load_of a offset = loaded a (register_at offset)
 
--- a store at an offset: another offset takes no write
+-- the APIC after a store to a register, or as it was where there is none
 abbrev pub stored_at : LocalApic → Option Register → ℕ → LocalApic
 stored_at a (Some register) value = stored a register value
 stored_at a None value = a
 
+-- the APIC after a store at an offset
 abbrev pub store_to : LocalApic → ℕ → ℕ → LocalApic
 store_to a offset value = stored_at a (register_at offset) value
 
--- what a store at an offset brings about
+-- what a store to a register brings about, or nothing where there is none
 abbrev pub effect_at : LocalApic → Option Register → ℕ → Effect
 effect_at a (Some register) value = effect_of a register value
 effect_at a None value = Plain
 
+-- what a store at an offset brings about
 abbrev pub store_effect : LocalApic → ℕ → ℕ → Effect
 store_effect a offset value = effect_at a (register_at offset) value

@@ -1,8 +1,6 @@
 use Rattle.std.proofs.Common.{◌≡◌, ◌+◌, ◌-◌, false, sym, ap, ◌∙◌, arith, subst}
-use Rattle.std.specs.Prelude.{Some, is_some, nat_eq, IfSome}
-use Rattle.turn_book.specs.Hands.{held_at, slot_at}
-use Rattle.book_rows.specs.Counting.{Counted}
-use Rattle.book_rows.specs.declared.machine.Change.TheVariants.{Move}
+use Rattle.std.specs.Prelude.{Some, is_some, nat_eq}
+use Rattle.turn_book.specs.Hands.{held_at}
 use Rattle.book_rows.proofs.Values.{may_move, moved_are, HasCount, HasLegal}
 use Rattle.book_rows.proofs.moving.move_once.Goals as goal
 

@@ -1,5 +1,5 @@
-use Rattle.std.proofs.Common.{◌≡◌, true, false, refl, sym, ap, ◌∙◌, arith}
-use Rattle.std.specs.Prelude.{Some, is_some, nat_eq}
+use Rattle.std.proofs.Common.{true, false, ap, ◌∙◌}
+use Rattle.std.specs.Prelude.{Some, is_some}
 use Rattle.turn_book.specs.Hands.{slot_at}
 use Rattle.turn_book.specs.Lent.{slot_lent, lent_here}
 use Rattle.book_rows.proofs.moving.write.Goals as goal

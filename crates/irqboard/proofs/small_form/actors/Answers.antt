@@ -1,11 +1,13 @@
 use Rattle.std.proofs.Common.{◌≡◌, ◌+◌, ◌∷◌, [], ◌++◌, true, false, Ok, nat_eq, nat_lt, length, codes, ap, sym, ◌∙◌, length-append, IsTrue, arith}
-use Rattle.std.proofs.lemmas.List.{append-nil}
+use Rattle.std.proofs.lemmas.List.{append-nil, nil_from_length}
 use Rattle.std.proofs.lemmas.Bool.Decides.{nat_tests}
-use Rattle.std.proofs.lemmas.List.Elements.{All-same, All-push}
+use Rattle.std.proofs.lemmas.List.Elements.{All-nil, All-same, All-push}
 use Rattle.irq_base.specs.declared.call.Call.{Call}
 use Rattle.irqboard.specs.Lines.{same_text, ended_lines, is_ended}
 use Rattle.irqboard.specs.SmallForm.{is_built, actors_from}
-use Rattle.irqboard.proofs.Scripts.{put_calls, actors-cut, actors-end, actors-behind, actors-many, actors-bad, actors-more, actors-none, ended_lines-none}
+use Rattle.irqboard.specs.Scripts.{actor_lines}
+use Rattle.irqboard.proofs.Wholes.{actor_lines-more, actor_lines-begin, same_text-is}
+use Rattle.irqboard.proofs.Scripts.{put_calls, put_none, actors-cut, actors-end, actors-behind, actors-many, actors-bad, actors-more, actors-none, ended_lines-none}
 use Rattle.irqboard.proofs.small_form.actors.Goals as goal
 
 pub returns-then-is_empty-clause-found : goal.returns-then-is_empty-clause-found
@@ -69,6 +71,10 @@ loop-line-preserved c =
           ∙ ap (put_calls c.loop-line.calls.items) (sym (actors-cut n c.loop-line.rest.now line behind c.in-Some.ensures.parts)) ∙ c.loop-line.invariant.calls;
       built = All-same is_built_call _ _ pushed (All-push is_built_call c.loop-line.calls.items call c.loop-line.invariant.built c.in-Some-call_of.ensures.built);
       number = omega (arith, ap length pushed, length-append c.loop-line.calls.items (call ∷ []), c.loop-line.invariant.number);
+      text =
+          c.loop-line.invariant.text
+          ∙ ap (λ rest. actor_lines c.loop-line.calls.items ++ rest) (c.in-Some.ensures.whole ∙ ap (λ t. t ++ 10 ∷ behind) c.in-Some-call_of.ensures.spelled)
+          ∙ sym (actor_lines-more c.loop-line.calls.items call behind) ∙ ap (λ cs. actor_lines cs ++ behind) (sym pushed);
       few = omega arith;
     }
 
@@ -77,3 +83,23 @@ returns-clause-bad c =
     sym c.loop-line.invariant.calls
     ∙ ap (put_calls c.loop-line.calls.items) (ap (λ ls. actors_from c.loop-line.number ls (is_ended c.loop-line.rest.now)) (ended_lines-none c.loop-line.rest.now c.in_default.ensures.parts)
     ∙ actors-none c.loop-line.number (is_ended c.loop-line.rest.now))
+
+pub returns-then-is_empty-clause-spelled : goal.returns-then-is_empty-clause-spelled
+returns-then-is_empty-clause-spelled c =
+    let line = c.in-Some.line.now in
+    let behind = c.in-Some.behind.now in
+    let is : line ≡ codes "end" = same_text-is line (codes "end") (cc (c.if-eq.ensures, c.as_slice.ensures)) in
+    let none : behind ≡ [] = nil_from_length behind (grind (arith, nat_tests, c.if-is_empty.ensures)) in
+    c.loop-line.invariant.text
+    ∙ ap (λ rest. actor_lines c.loop-line.calls.items ++ rest) (c.in-Some.ensures.whole ∙ (λ i. is i ++ 10 ∷ none i))
+
+pub loop-line-init : goal.loop-line-init
+loop-line-init c =
+    let bytes = c.args.bytes.now in
+    let none : c.new-calls.result.items ≡ [] = c.new-calls.ensures.items in record {
+      calls = ap (λ cs. put_calls cs (actors_from 3 (ended_lines bytes) (is_ended bytes))) none ∙ put_none (actors_from 3 (ended_lines bytes) (is_ended bytes));
+      built = All-same is_built_call _ _ none (All-nil is_built_call);
+      number = omega (arith, ap length none);
+      text = actor_lines-begin bytes ∙ ap (λ cs. actor_lines cs ++ bytes) (sym none);
+      few = omega arith;
+    }
