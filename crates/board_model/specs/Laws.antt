@@ -1,0 +1,45 @@
+-- What holds of every plan; A and B are the types of the values with which plans end.
+use Rattle.std.specs.Prelude.{◌≡◌, false, ◌||◌}
+use Rattle.irq_base.specs.declared.shape.Part.{Part}
+use Rattle.board_model.specs.Board.{Board, part_of}
+use Rattle.board_model.specs.Hand.{Parts}
+use Rattle.board_model.specs.Plan.{Plan, ◌>>=◌}
+use Rattle.board_model.specs.Run.{Wishes, run, then_run, reaches, run_on, then_on}
+use Rattle.board_model.specs.Agreement.{Agrees, Exact, AgreesOnReach, RunsAlike, SameOutcome, SameFrame}
+use Rattle.board_model.specs.Following.{shown_wishes, IsSteady}
+
+-- a part outside the reach stays as it is
+abbrev pub UnreachedStays : Type 0 → Type 0
+UnreachedStays A = (m : Plan A) (b : Board) (ws : Wishes) (q : Part) → reaches m b ws q ≡ false → part_of (run m b ws).board q ≡ part_of b q
+
+-- a run leaves the shape, the two counts and the number of local APICs
+abbrev pub FrameStays : Type 0 → Type 0
+FrameStays A = (m : Plan A) (b : Board) (ws : Wishes) → SameFrame (run m b ws).board b
+
+-- boards that agree on the reach run alike, and have the same reach
+abbrev pub AgreeingAlike : Type 0 → Type 0
+AgreeingAlike A = (m : Plan A) (b c : Board) (ws : Wishes) → AgreesOnReach m b c ws → RunsAlike m m b c ws
+
+-- the events and answers of a run decide its value, its sendings and the board after it, whatever was wished
+abbrev pub ShownDecides : Type 0 → Type 0
+ShownDecides A = (m : Plan A) (b : Board) (ws vs : Wishes) → (run m b ws).log.events ≡ (run m b vs).log.events → (run m b ws).log.answers ≡ (run m b vs).log.answers → SameOutcome (run m b ws) (run m b vs)
+
+-- on parts in hand of the board a plan gives as the board, or it lacks a part that is reached and is not in hand
+abbrev pub ExactOnParts : Type 0 → Type 0
+ExactOnParts A = (m : Plan A) (q : Parts) (b : Board) (ws : Wishes) → Agrees q b → Exact (run_on m q ws) (run m b ws) q (reaches m b ws)
+
+-- a steady plan run again under the wishes that its log shows gives the same value, log and board
+abbrev pub ShownFollowed : Type 0 → Type 0
+ShownFollowed A = (m : Plan A) (b : Board) (ws : Wishes) → IsSteady m → SameOutcome (run m b (shown_wishes (run m b ws).log.sendings)) (run m b ws)
+
+-- a plan and then another, on a board: the one and then the other
+abbrev pub RunInSequence : Type 0 → Type 0 → Type 0
+RunInSequence A B = (m : Plan A) (f : A → Plan B) (b : Board) (ws : Wishes) → run (m >>= f) b ws ≡ then_run (run m b ws) f
+
+-- the same on parts in hand
+abbrev pub RunOnInSequence : Type 0 → Type 0 → Type 0
+RunOnInSequence A B = (m : Plan A) (f : A → Plan B) (q : Parts) (ws : Wishes) → run_on (m >>= f) q ws ≡ then_on (run_on m q ws) f
+
+-- a plan and then another reach what the one reaches, and what the other then does
+abbrev pub ReachesInSequence : Type 0 → Type 0 → Type 0
+ReachesInSequence A B = (m : Plan A) (f : A → Plan B) (b : Board) (ws : Wishes) (q : Part) → reaches (m >>= f) b ws q ≡ (reaches m b ws q || reaches (f (run m b ws).value) (run m b ws).board (run m b ws).wishes q)

@@ -1,0 +1,10 @@
+pub mod Registry
+pub mod Chips
+pub mod Board
+pub mod Hand
+pub mod Statuses
+pub mod Plan
+pub mod Run
+pub mod Agreement
+pub mod Following
+pub mod Laws

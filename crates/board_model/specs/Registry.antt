@@ -1,0 +1,38 @@
+-- The routing table and the registrations, the first part of a board.
+use Rattle.std.specs.Prelude.{ℕ, List}
+use Rattle.std.specs.declared.option.Option.{Option}
+use Rattle.std.specs.FinMap as map
+use Rattle.std.specs.Ordering.{nat_cmp}
+use Rattle.irq_base.specs.declared.call.Space.{Space}
+use Rattle.irq_base.specs.declared.message.Targets.{Targets}
+
+-- where each GSI goes that a row names (KVM_SET_GSI_ROUTING)
+abbrev pub Table : Type 0
+Table = map.FinMap nat_cmp Targets
+
+-- an irqfd (KVM_IRQFD): a signal of the trigger injects on the GSI, and the resample counter, if there is one, is signalled
+-- at each acknowledge of the GSI
+pub record Irqfd : Type 0 where
+  pub trigger : ℕ
+  pub gsi : ℕ
+  pub resample : Option ℕ
+
+-- an acknowledge notifier: the counter is signalled at each acknowledge of the GSI
+pub record Watch : Type 0 where
+  pub counter : ℕ
+  pub gsi : ℕ
+
+-- an ioeventfd (KVM_IOEVENTFD): the counter is bound to guest writes at an address; length 0 stands for any length
+pub record IoEvent : Type 0 where
+  pub space : Space
+  pub address : ℕ
+  pub len : ℕ
+  pub counter : ℕ
+  pub want : Option ℕ
+
+-- the table, and the registrations of each kind in their order
+pub record RegistryPart : Type 0 where
+  pub table : Table
+  pub irqfds : List Irqfd
+  pub watches : List Watch
+  pub ioevents : List IoEvent
