@@ -5,3 +5,4 @@ pub mod Showing
 pub mod Sequence
 pub mod OnParts
 pub mod Followed
+pub mod Pins

@@ -1,12 +1,12 @@
 -- On the parts in hand: the same as on the board, or a part of the reach that is lacking.
-use Rattle.std.proofs.Common.{◌≡◌, Bool, true, false, refl, sym, ap, ◌∙◌, subst, ◌||◌, Some, None, is_some}
+use Rattle.std.proofs.Common.{◌≡◌, ◌↔◌, true≢false, Bool, true, false, refl, sym, ap, ◌∙◌, subst, ◌||◌, Some, None, is_some}
 use Rattle.std.specs.declared.option.Option.{Option}
 use Rattle.irq_base.specs.declared.shape.Part.{Part}
 use Rattle.board_model.specs.Board.{ValueOf, Board, part_of, with_part, is_same}
 use Rattle.board_model.specs.Hand.{Parts, part_in, with_part_in, all_parts}
 use Rattle.board_model.specs.Plan.{Plan, done, look, put, tell, answer, choose}
 use Rattle.board_model.specs.Run.{Log, told, answered, sending, Wishes, next_wish, later_wishes, Outcome, with_log, run, reaches, OnParts, gives, lacks, with_log_on, run_on}
-use Rattle.board_model.specs.Agreement.{Agrees, Exact}
+use Rattle.board_model.specs.Agreement.{Agrees, Exact, IsLacking, ReachesPast}
 use Rattle.board_model.proofs.Lens.{same_is, same_itself, in_written, in_other, all_reads, all_written, none_too}
 use Rattle.board_model.proofs.Alike.{or-true, or-true_right}
 
@@ -83,3 +83,12 @@ exact_on_parts {A} (put p w rest) q b ws agrees = elim (part_in q p) as (λ (x :
 exact_on_parts (tell x rest) q b ws agrees = shows_too (told x) (run_on rest q ws) (run rest b ws) q (reaches rest b ws) (exact_on_parts rest q b ws agrees)
 exact_on_parts (answer x rest) q b ws agrees = shows_too (answered x) (run_on rest q ws) (run rest b ws) q (reaches rest b ws) (exact_on_parts rest q b ws agrees)
 exact_on_parts (choose m about g k) q b ws agrees = shows_too (sending m about (g (next_wish ws))) (run_on (k (g (next_wish ws))) q (later_wishes ws)) (run (k (g (next_wish ws))) b (later_wishes ws)) q (reaches (k (g (next_wish ws))) b (later_wishes ws)) (exact_on_parts (k (g (next_wish ws))) q b (later_wishes ws) agrees)
+
+-- ---- what is lacking
+
+lacking_from : {A : Type 0} (s : OnParts A) (o : Outcome A) (q : Parts) (reach : Part → Bool) → Exact s o q reach → IsLacking s ↔ ReachesPast q reach
+lacking_from (gives a l r ws) o q reach h = (λ f. absurd f, λ x. absurd (true≢false (sym (h.all x.part x.lacks.reached) ∙ ap is_some x.lacks.lacking)))
+lacking_from (lacks p) o q reach h = (λ _. record { part = p; lacks = h }, λ _. tt)
+
+pub lacking_exactly : {A : Type 0} (m : Plan A) (q : Parts) (b : Board) (ws : Wishes) → Agrees q b → IsLacking (run_on m q ws) ↔ ReachesPast q (reaches m b ws)
+lacking_exactly m q b ws agrees = lacking_from (run_on m q ws) (run m b ws) q (reaches m b ws) (exact_on_parts m q b ws agrees)

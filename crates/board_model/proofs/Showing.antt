@@ -36,6 +36,8 @@ sets-sent pic sent = elim (is_empty sent.new) as (λ e. is_empty sent.new ≡ e 
   | false ↦ λ _. sets-taken pic sent
 ] refl
 
+pub ruleset status_rules = (sets-sent)
+
 -- ---- the choice shows in the event or in the answer
 
 event_sets : List Event → Sent

@@ -30,6 +30,16 @@ abbrev pub Exact : {A : Type 0} → OnParts A → Outcome A → Parts → (Part 
 Exact (gives a l r ws) o q reach = GivesAsBoard a l r ws o q reach
 Exact (lacks p) o q reach = LacksReached p q reach
 
+-- something is lacking
+abbrev pub IsLacking : {A : Type 0} → OnParts A → Type 0
+IsLacking (gives a l r ws) = ⊥
+IsLacking (lacks p) = Unit {0}
+
+-- some part is reached and not in hand
+pub record ReachesPast (q : Parts) (reach : Part → Bool) : Type 0 where
+  pub part : Part
+  pub lacks : LacksReached part q reach
+
 -- two boards with equally many local APICs that agree on each part that the plan reaches
 pub record AgreesOnReach {A : Type 0} (m : Plan A) (b c : Board) (ws : Wishes) : Type 0 where
   pub lapics : length b.lapics ≡ length c.lapics

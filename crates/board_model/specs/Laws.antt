@@ -1,11 +1,16 @@
--- What holds of every plan; A and B are the types of the values with which plans end.
-use Rattle.std.specs.Prelude.{◌≡◌, false, ◌||◌}
+-- What holds of every plan (A and B are the types of the values with which plans end), of statuses and of pins.
+use Rattle.std.specs.Prelude.{◌≡◌, ◌↔◌, false, ◌||◌}
 use Rattle.irq_base.specs.declared.shape.Part.{Part}
+use Rattle.ioapic_82093aa.specs.declared.ioapic.Ioapic.{Ioapic}
+use Rattle.pic_8259a.specs.declared.pair.Pair.{Pair}
+use Rattle.std.specs.declared.option.Option.{Option}
 use Rattle.board_model.specs.Board.{Board, part_of}
+use Rattle.board_model.specs.Chips.{PicPart, IoapicPart, master_high, slave_high, pair_of, with_pair, ioapic_high, ioapic_of, with_ioapic}
+use Rattle.board_model.specs.Statuses.{Sent, TargetAnswer, status_sent, sets_of}
 use Rattle.board_model.specs.Hand.{Parts}
 use Rattle.board_model.specs.Plan.{Plan, ◌>>=◌}
 use Rattle.board_model.specs.Run.{Wishes, run, then_run, reaches, run_on, then_on}
-use Rattle.board_model.specs.Agreement.{Agrees, Exact, AgreesOnReach, RunsAlike, SameOutcome, SameFrame}
+use Rattle.board_model.specs.Agreement.{Agrees, Exact, AgreesOnReach, RunsAlike, SameOutcome, SameFrame, IsLacking, ReachesPast}
 use Rattle.board_model.specs.Following.{shown_wishes, IsSteady}
 
 -- a part outside the reach stays as it is
@@ -28,6 +33,10 @@ ShownDecides A = (m : Plan A) (b : Board) (ws vs : Wishes) → (run m b ws).log.
 abbrev pub ExactOnParts : Type 0 → Type 0
 ExactOnParts A = (m : Plan A) (q : Parts) (b : Board) (ws : Wishes) → Agrees q b → Exact (run_on m q ws) (run m b ws) q (reaches m b ws)
 
+-- on parts in hand of the board a plan lacks a part exactly where it reaches one that is not in hand
+abbrev pub LackingExactly : Type 0 → Type 0
+LackingExactly A = (m : Plan A) (q : Parts) (b : Board) (ws : Wishes) → Agrees q b → IsLacking (run_on m q ws) ↔ ReachesPast q (reaches m b ws)
+
 -- a steady plan run again under the wishes that its log shows gives the same value, log and board
 abbrev pub ShownFollowed : Type 0 → Type 0
 ShownFollowed A = (m : Plan A) (b : Board) (ws : Wishes) → IsSteady m → SameOutcome (run m b (shown_wishes (run m b ws).log.sendings)) (run m b ws)
@@ -43,3 +52,14 @@ RunOnInSequence A B = (m : Plan A) (f : A → Plan B) (q : Parts) (ws : Wishes) 
 -- a plan and then another reach what the one reaches, and what the other then does
 abbrev pub ReachesInSequence : Type 0 → Type 0 → Type 0
 ReachesInSequence A B = (m : Plan A) (f : A → Plan B) (b : Board) (ws : Wishes) (q : Part) → reaches (m >>= f) b ws q ≡ (reaches m b ws q || reaches (f (run m b ws).value) (run m b ws).board (run m b ws).wishes q)
+
+-- the status of a sending shows the sets that it reached
+abbrev pub StatusShowsSets : Type 0
+StatusShowsSets = (pic : Option TargetAnswer) (sent : Sent) → sets_of (status_sent pic sent) ≡ sent
+
+-- a chip's part is what its chip makes of it, and a chip comes out as it was put in where its pins are those that are held
+pub record PinsFollowHolds : Type 0 where
+  pub pic : (part : PicPart) → with_pair part (pair_of part) ≡ part
+  pub pair : (part : PicPart) (pair : Pair) → pair.master.high ≡ master_high part.holds → pair.slave.high ≡ slave_high part.holds → pair_of (with_pair part pair) ≡ pair
+  pub ioapic : (part : IoapicPart) → with_ioapic part (ioapic_of part) ≡ part
+  pub chip : (part : IoapicPart) (chip : Ioapic) → chip.high ≡ ioapic_high part.holds → ioapic_of (with_ioapic part chip) ≡ chip

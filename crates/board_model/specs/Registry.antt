@@ -5,17 +5,11 @@ use Rattle.std.specs.FinMap as map
 use Rattle.std.specs.Ordering.{nat_cmp}
 use Rattle.irq_base.specs.declared.call.Space.{Space}
 use Rattle.irq_base.specs.declared.message.Targets.{Targets}
+use Rattle.irqfd_set.specs.declared.irqfds.Irqfd.{Irqfd}
 
 -- where each GSI goes that a row names (KVM_SET_GSI_ROUTING)
 abbrev pub Table : Type 0
 Table = map.FinMap nat_cmp Targets
-
--- an irqfd (KVM_IRQFD): a signal of the trigger injects on the GSI, and the resample counter, if there is one, is signalled
--- at each acknowledge of the GSI
-pub record Irqfd : Type 0 where
-  pub trigger : ℕ
-  pub gsi : ℕ
-  pub resample : Option ℕ
 
 -- an acknowledge notifier: the counter is signalled at each acknowledge of the GSI
 pub record Watch : Type 0 where

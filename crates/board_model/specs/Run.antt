@@ -23,6 +23,7 @@ pub record Log : Type 0 where
   pub answers : List Reply
   pub sendings : List Sending
 
+-- nothing shows
 abbrev pub silence : Log
 silence = record { events = []; answers = []; sendings = [] }
 
@@ -57,6 +58,7 @@ abbrev pub next_wish : Wishes → Numbers
 next_wish [] = set.empty
 next_wish (w ∷ ws) = w
 
+-- the wishes after the next
 abbrev pub later_wishes : Wishes → Wishes
 later_wishes [] = []
 later_wishes (w ∷ ws) = ws
@@ -70,6 +72,7 @@ pub record Outcome (A : Type 0) : Type 0 where
   pub board : Board
   pub wishes : Wishes
 
+-- the outcome with f of its log
 abbrev pub with_log : {A : Type 0} → (Log → Log) → Outcome A → Outcome A
 with_log f o = record { value = o.value; log = f o.log; board = o.board; wishes = o.wishes }
 
@@ -82,7 +85,7 @@ run (tell x rest) b ws = with_log (told x) (run rest b ws)
 run (answer r rest) b ws = with_log (answered r) (run rest b ws)
 run (choose m about g k) b ws = with_log (sending m about (g (next_wish ws))) (run (k (g (next_wish ws))) b (later_wishes ws))
 
--- and then the plan of its value
+-- after an outcome the plan of its value, on the board and under the wishes that it left
 abbrev pub then_run : {A B : Type 0} → Outcome A → (A → Plan B) → Outcome B
 then_run o f = with_log (both o.log) (run (f o.value) o.board o.wishes)
 
@@ -103,6 +106,7 @@ pub data OnParts (A : Type 0) : Type 0 where
   gives : A → Log → Parts → Wishes → OnParts A
   lacks : Part → OnParts A
 
+-- the same with f of its log, where nothing is lacking
 abbrev pub with_log_on : {A : Type 0} → (Log → Log) → OnParts A → OnParts A
 with_log_on f (gives a l q ws) = gives a (f l) q ws
 with_log_on f (lacks p) = lacks p
@@ -116,7 +120,7 @@ run_on (tell x rest) q ws = with_log_on (told x) (run_on rest q ws)
 run_on (answer r rest) q ws = with_log_on (answered r) (run_on rest q ws)
 run_on (choose m about g k) q ws = with_log_on (sending m about (g (next_wish ws))) (run_on (k (g (next_wish ws))) q (later_wishes ws))
 
--- and then the plan of its value
+-- after it the plan of its value, on the parts and under the wishes that it left; what is lacking stays so
 abbrev pub then_on : {A B : Type 0} → OnParts A → (A → Plan B) → OnParts B
 then_on (gives a l q ws) f = with_log_on (both l) (run_on (f a) q ws)
 then_on (lacks p) f = lacks p

@@ -24,6 +24,7 @@ pub data TargetAnswer : Type 0 where
   stood_already : TargetAnswer
   no_effect : Cause → TargetAnswer
 
+-- whether a set has no member
 abbrev pub is_empty : Numbers → Bool
 is_empty s = nat_eq (set.len s) 0
 
@@ -31,10 +32,12 @@ is_empty s = nat_eq (set.len s) 0
 abbrev pub message_answer : Sent → TargetAnswer
 message_answer sent = if is_empty sent.new then stood_already else newly_taken
 
+-- whether there is such a target, and it newly took the request
 abbrev pub took : Option TargetAnswer → Bool
 took (Some newly_taken) = true
 took _ = false
 
+-- whether there is such a target, and the request stood there already
 abbrev pub stands : Option TargetAnswer → Bool
 stands (Some stood_already) = true
 stands _ = false

@@ -6,10 +6,10 @@
 //! that it looks at or writes. What a choice reached shows at once, in an event or in the reply.
 //!
 //! Reading order of the definitions: `Registry`, `Chips`, `Board`, `Hand`, `Statuses`, `Plan`, `Run`, `Agreement`,
-//! `Following`, `Laws`. The functions here have no body; the contract of each is a law of every plan.
+//! `Following`, `Laws`. The functions here have no body; the contract of each is a law.
 #![tactic(auto)]
 
-ghost use Rattle.board_model.specs.Laws.{UnreachedStays, FrameStays, AgreeingAlike, ShownDecides, ExactOnParts, ShownFollowed, RunInSequence, RunOnInSequence, ReachesInSequence};
+ghost use Rattle.board_model.specs.Laws.{UnreachedStays, FrameStays, AgreeingAlike, ShownDecides, ExactOnParts, LackingExactly, ShownFollowed, RunInSequence, RunOnInSequence, ReachesInSequence, StatusShowsSets, PinsFollowHolds};
 
 /// A law: a part outside the reach of a plan stays as it is.
 #[tactic(auto, using(crate::proofs::Staying::unreached_stays))]
@@ -42,6 +42,11 @@ pub fn exact_on_parts<A>()
     ensures { ExactOnParts A }
 {}
 
+/// A law: on parts in hand of a board a plan lacks a part exactly where it reaches one that is not in hand.
+pub fn lacking_exactly<A>()
+    ensures { LackingExactly A }
+{}
+
 /// A law: a plan that is run again under the wishes that its log shows makes the same choices, if to wish for what was
 /// chosen is to choose it.
 #[tactic(auto, using(crate::proofs::Followed::shown_followed))]
@@ -66,4 +71,17 @@ pub fn run_on_in_sequence<A, B>()
 #[tactic(auto, using(crate::proofs::Sequence::reaches_rules))]
 pub fn reaches_in_sequence<A, B>()
     ensures { ReachesInSequence A B }
+{}
+
+/// A law: the status of a sending shows which processors it reached newly, and at which its request stood already.
+#[tactic(auto, using(crate::proofs::Showing::status_rules))]
+pub fn status_shows_sets()
+    ensures { StatusShowsSets }
+{}
+
+/// A law: the part of a chip with pins is what its chip makes of it, and a chip comes out of a part as it was put in, where
+/// its pins are those that are held.
+#[tactic(auto, using(crate::proofs::Pins::pins_follow_holds))]
+pub fn pins_follow_holds()
+    ensures { PinsFollowHolds }
 {}
