@@ -1,12 +1,12 @@
 -- A word is that of at most one route, and gives it back.
-use Rattle.std.proofs.Common.{◌≡◌, ◌≢◌, ℕ, ◌+◌, ◌-◌, ◌*◌, ◌/◌, ◌%◌, ◌^◌, ◌<◌, Bool, true, false, ◌&&◌, nat_eq, nat_lt, if◌then◌else◌, Some, None, IsTrue, refl, sym, ap, ◌∙◌, arith}
+use Rattle.std.proofs.Common.{◌≡◌, ◌≢◌, ℕ, ◌+◌, ◌*◌, ◌/◌, ◌%◌, ◌^◌, ◌<◌, Bool, true, false, ◌&&◌, nat_eq, nat_lt, if◌then◌else◌, Some, None, IsTrue, refl, sym, ap, ◌∙◌, arith}
 use Rattle.std.proofs.lemmas.Bool.Decides.{nat_tests}
 use Rattle.std.specs.Cmp.{first_so, second_so, unsigned_Decides}
 use Rattle.std.specs.declared.option.Option.{Option}
 use borrow.Author.Tests.{ltb-true}
 use Rattle.irq_base.specs.declared.message.MsiWord.{MsiWord}
 use Rattle.irq_base.specs.declared.message.Targets.{Targets}
-use Rattle.route_table.specs.Words.{no_targets, is_route, is_route_of, is_below, is_none, is_good, pin_bits, pin_named, bits_of_targets, target_bits, word_of, pins_in, message_in, of_kind, named_by, is_marked, bits_at, is_word_of, given_where, targets_in}
+use Rattle.route_table.specs.Words.{no_targets, is_route, is_route_of, is_good, pin_named, bits_of_targets, target_bits, word_of, pins_in, message_in, of_kind, named_by, is_marked, bits_at, is_word_of, given_where, targets_in}
 
 -- ---- the fields of a word
 

@@ -2,6 +2,12 @@
 //! published.
 #![tactic(auto)]
 
+mod filling;
+mod laws;
+mod rows;
+mod table;
 mod words;
 
+pub use laws::table_has_its_rows;
+pub use table::Table;
 pub use words::{decode, encode};

@@ -133,8 +133,8 @@ fn is_good(address: u64, payload: u32) -> bool
     MsiWord { address, payload }.good()
 }
 
-// Whether the chip with that many pins has the pin, if one is named.
-fn is_below(pin: Option<u8>, count: u8) -> bool
+/// Whether the chip with that many pins has the pin, if one is named.
+pub fn is_below(pin: Option<u8>, count: u8) -> bool
     ensures { result ≡ is_below pin count }
 {
     match pin {

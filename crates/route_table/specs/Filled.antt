@@ -1,0 +1,79 @@
+-- What words and pins that stand for rows answer, as rules.
+use Rattle.std.proofs.Common.{◌≡◌, ℕ, List, [], length, get_or, replicate, Some, None, true, ◌||◌, inl, inr, refl, sym, ap, ◌∙◌, arith}
+use Rattle.std.proofs.lemmas.Bool.Decides.{leb_tells}
+use Rattle.std.specs.Option.{is_some}
+use Rattle.route_table.specs.Sound.{or_on}
+use Rattle.std.proofs.lemmas.List.{get_or-replicate, get_or_past, length-replicate}
+use Rattle.irq_base.specs.declared.call.Row.{Row}
+use Rattle.irq_base.specs.declared.event.Pin.TheVariants.{Pic, Ioapic}
+use Rattle.irq_base.specs.declared.message.Targets.{Targets}
+use Rattle.route_table.specs.Words.{targets_in}
+use Rattle.route_table.specs.Rows.{reasons_after, pic_in, ioapic_in, has_target, first_given, refusal_of}
+use Rattle.route_table.specs.Pins.{owner, gsi_of}
+use Rattle.route_table.specs.Sound.{sound_of}
+use Rattle.route_table.specs.Standing.{Stands}
+use Rattle.route_table.specs.Tables.{table_in, IsTable}
+use Rattle.route_table.specs.TableLaws.{table_in-rows, targets_of-words, gsi_told, gsi_found}
+
+-- words and pins of 0 stand for no rows
+pub stands_none : (words pics ioapics : List ℕ) → ((k : ℕ) → get_or words k 0 ≡ 0) → ((n : ℕ) → get_or pics n 0 ≡ 0) → ((n : ℕ) → get_or ioapics n 0 ≡ 0) → Stands words pics ioapics []
+unfolding targets_in first_given owner
+stands_none words pics ioapics no_word no_pic no_ioapic = record { routes = λ gsi. ap (λ w. (targets_in w).0) (no_word gsi); pic_owners = no_pic; ioapic_owners = no_ioapic }
+
+zeros_at : (n k : ℕ) → get_or {A = ℕ} (replicate n 0) k 0 ≡ 0
+zeros_at n k =
+    elim (leb_tells n k) [
+      | inl h ↦ get_or_past {X = ℕ} (replicate n 0) k 0 (omega (arith, length-replicate {A = ℕ} n 0, h.1))
+      | inr h ↦ get_or-replicate {A = ℕ} n k 0 0 h.1
+    ]
+
+pub zeros_16 : (k : ℕ) → get_or {A = ℕ} (replicate 16 0) k 0 ≡ 0
+zeros_16 k = zeros_at 16 k
+
+pub zeros_24 : (k : ℕ) → get_or {A = ℕ} (replicate 24 0) k 0 ≡ 0
+zeros_24 k = zeros_at 24 k
+
+pub no_rows-kept : refusal_of [] ≡ None
+unfolding reasons_after
+no_rows-kept = refl
+
+pub is_table : (words spare pics ioapics : List ℕ) (rows : List Row) → Stands words pics ioapics rows → refusal_of rows ≡ None → length words ≡ 4096 → length spare ≡ 4096 → IsTable words spare pics ioapics
+is_table words spare pics ioapics rows s kept long room = record { long = long; room = room; made = (rows, s, kept) }
+
+-- other room
+pub same_table : (words spare pics ioapics other : List ℕ) → IsTable words spare pics ioapics → length other ≡ 4096 → IsTable words other pics ioapics
+same_table words spare pics ioapics other t room = record { long = t.long; room = room; made = t.made }
+
+pub pic_target : (t : Targets) (n : ℕ) → t.pic ≡ Some n → has_target t ≡ true
+pic_target t n e = λ i. is_some (e i) || (is_some t.ioapic || is_some t.msi)
+
+pub ioapic_target : (t : Targets) (n : ℕ) → t.ioapic ≡ Some n → has_target t ≡ true
+ioapic_target t n e = or_on (is_some t.pic) (is_some t.ioapic || is_some t.msi) (λ i. is_some (e i) || is_some t.msi)
+
+pub pic_owner : (words spare pics ioapics : List ℕ) (n : ℕ) → IsTable words spare pics ioapics → gsi_told (get_or pics n 0) ≡ gsi_of (table_in words) (Pic n)
+unfolding gsi_of
+pic_owner words spare pics ioapics n t =
+    let rows = t.made.0 in
+    let sound = sound_of rows t.made.2 in
+    ap gsi_told (t.made.1.pic_owners n)
+    ∙ sym (gsi_found (λ x. x.pic) pic_in (λ _ _. refl) refl pic_target rows sound sound.pic sound.pic_owned n)
+    ∙ ap (λ table. gsi_of table (Pic n)) (sym (table_in-rows words pics ioapics rows t.made.1))
+
+pub ioapic_owner : (words spare pics ioapics : List ℕ) (n : ℕ) → IsTable words spare pics ioapics → gsi_told (get_or ioapics n 0) ≡ gsi_of (table_in words) (Ioapic n)
+unfolding gsi_of
+ioapic_owner words spare pics ioapics n t =
+    let rows = t.made.0 in
+    let sound = sound_of rows t.made.2 in
+    ap gsi_told (t.made.1.ioapic_owners n)
+    ∙ sym (gsi_found (λ x. x.ioapic) ioapic_in (λ _ _. refl) refl ioapic_target rows sound sound.ioapic sound.ioapic_owned n)
+    ∙ ap (λ table. gsi_of table (Ioapic n)) (sym (table_in-rows words pics ioapics rows t.made.1))
+
+pub ruleset refill_rules = (stands_none)
+
+pub ruleset replace_rules = (zeros_16, zeros_24, is_table, same_table, table_in-rows, stands_none)
+
+pub ruleset look_rules = (targets_of-words)
+
+pub ruleset pin_rules = (pic_owner, ioapic_owner)
+
+pub ruleset copy_rules = (same_table)
