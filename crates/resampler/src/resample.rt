@@ -1,0 +1,41 @@
+//! The signals of resample counters at an acknowledge.
+ghost use Rattle.std.specs.Prelude.{◌≡◌, ◌+◌, ◌<◌, ◌≤◌, [], ◌∷◌, ◌++◌, length, All};
+ghost use Rattle.arrayvec.specs.ArrayVec.{array_vec_len};
+ghost use Rattle.event_counter.specs.Counters.{signalled_all};
+ghost use Rattle.resampler.specs.Resample.{resample_of, resampled, resample_events};
+
+use event_counter::Counters;
+use irq_base::{Event, Events, Status};
+use irqfd_set::{Irqfd, Irqfds};
+
+/// Signals each resample counter of that GSI, in order of registration, with its event. There is room for these events,
+/// and the counters are there.
+pub fn on_ack(irqfds: &Irqfds, gsi: u16, counters: &mut Counters, events: &mut Events)
+    requires room { array_vec_len events.old + length (resampled irqfds.now gsi) ≤ 640 }
+    requires each { All (λ counter. counter < length counters.old) (resampled irqfds.now gsi) }
+    ensures counts { counters.new ≡ signalled_all counters.old (resampled irqfds.now gsi) }
+    ensures events { events.new.items ≡ events.old.items ++ resample_events irqfds.now gsi }
+{
+    for row in irqfds.rows() {
+        if let Some(counter) = resample_of(row, gsi) {
+            counters.signal(counter);
+            tell(Event::Resampled(counter), events);
+        }
+    }
+}
+
+// Appends an event. The check knows `Status`, a part of `Event`, only where it is named.
+fn tell(event: Event, events: &mut Events)
+    requires { array_vec_len events.old < 640 }
+    ensures { events.new.items ≡ events.old.items ++ event ∷ [] }
+{
+    let _named: Option<Status> = None;
+    events.push(event);
+}
+
+// The resample counter of a row, where the row is one of that GSI.
+fn resample_of(row: &Irqfd, gsi: u16) -> Option<u16>
+    ensures { result ≡ resample_of gsi row.now }
+{
+    if row.gsi == gsi { row.resample } else { None }
+}
