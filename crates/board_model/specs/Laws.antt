@@ -1,13 +1,13 @@
 -- What holds of every plan (A and B are the types of the values with which plans end), of statuses and of pins.
 use Rattle.std.specs.Prelude.{◌≡◌, ◌↔◌, false, ◌||◌}
-use Rattle.irq_base.specs.declared.shape.Part.{Part}
-use Rattle.ioapic_82093aa.specs.declared.ioapic.Ioapic.{Ioapic}
-use Rattle.pic_8259a.specs.declared.pair.Pair.{Pair}
 use Rattle.std.specs.declared.option.Option.{Option}
+use Rattle.irq_base.specs.declared.shape.Part.{Part}
+use Rattle.pic_8259a.specs.declared.pair.Pair.{Pair}
+use Rattle.ioapic_82093aa.specs.declared.ioapic.Ioapic.{Ioapic}
 use Rattle.board_model.specs.Board.{Board, part_of}
+use Rattle.board_model.specs.Hand.{Parts}
 use Rattle.board_model.specs.Chips.{PicPart, IoapicPart, master_high, slave_high, pair_of, with_pair, ioapic_high, ioapic_of, with_ioapic}
 use Rattle.board_model.specs.Statuses.{Sent, TargetAnswer, status_sent, sets_of}
-use Rattle.board_model.specs.Hand.{Parts}
 use Rattle.board_model.specs.Plan.{Plan, ◌>>=◌}
 use Rattle.board_model.specs.Run.{Wishes, run, then_run, reaches, run_on, then_on}
 use Rattle.board_model.specs.Agreement.{Agrees, Exact, AgreesOnReach, RunsAlike, SameOutcome, SameFrame, IsLacking, ReachesPast}
@@ -17,7 +17,7 @@ use Rattle.board_model.specs.Following.{shown_wishes, IsSteady}
 abbrev pub UnreachedStays : Type 0 → Type 0
 UnreachedStays A = (m : Plan A) (b : Board) (ws : Wishes) (q : Part) → reaches m b ws q ≡ false → part_of (run m b ws).board q ≡ part_of b q
 
--- a run leaves the shape, the two counts and the number of local APICs
+-- a run leaves the shape, the number of local APICs and the two counts as they are
 abbrev pub FrameStays : Type 0 → Type 0
 FrameStays A = (m : Plan A) (b : Board) (ws : Wishes) → SameFrame (run m b ws).board b
 
@@ -45,11 +45,11 @@ ShownFollowed A = (m : Plan A) (b : Board) (ws : Wishes) → IsSteady m → Same
 abbrev pub RunInSequence : Type 0 → Type 0 → Type 0
 RunInSequence A B = (m : Plan A) (f : A → Plan B) (b : Board) (ws : Wishes) → run (m >>= f) b ws ≡ then_run (run m b ws) f
 
--- the same on parts in hand
+-- a plan and then another, on parts in hand: the one and then the other
 abbrev pub RunOnInSequence : Type 0 → Type 0 → Type 0
 RunOnInSequence A B = (m : Plan A) (f : A → Plan B) (q : Parts) (ws : Wishes) → run_on (m >>= f) q ws ≡ then_on (run_on m q ws) f
 
--- a plan and then another reach what the one reaches, and what the other then does
+-- a plan and then another reach what the one reaches, and what the other then reaches
 abbrev pub ReachesInSequence : Type 0 → Type 0 → Type 0
 ReachesInSequence A B = (m : Plan A) (f : A → Plan B) (b : Board) (ws : Wishes) (q : Part) → reaches (m >>= f) b ws q ≡ (reaches m b ws q || reaches (f (run m b ws).value) (run m b ws).board (run m b ws).wishes q)
 

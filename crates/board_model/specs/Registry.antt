@@ -5,16 +5,12 @@ use Rattle.std.specs.FinMap as map
 use Rattle.std.specs.Ordering.{nat_cmp}
 use Rattle.irq_base.specs.declared.call.Space.{Space}
 use Rattle.irq_base.specs.declared.message.Targets.{Targets}
+use Rattle.ack_notifiers.specs.declared.watches.Watch.{Watch}
 use Rattle.irqfd_set.specs.declared.irqfds.Irqfd.{Irqfd}
 
 -- where each GSI goes that a row names (KVM_SET_GSI_ROUTING)
 abbrev pub Table : Type 0
 Table = map.FinMap nat_cmp Targets
-
--- an acknowledge notifier: the counter is signalled at each acknowledge of the GSI
-pub record Watch : Type 0 where
-  pub counter : ℕ
-  pub gsi : ℕ
 
 -- an ioeventfd (KVM_IOEVENTFD): the counter is bound to guest writes at an address; length 0 stands for any length
 pub record IoEvent : Type 0 where
