@@ -1,16 +1,17 @@
 -- What words and pins that stand for rows answer, as rules.
-use Rattle.std.proofs.Common.{◌≡◌, ℕ, List, [], length, get_or, replicate, Some, None, true, ◌||◌, inl, inr, refl, sym, ap, ◌∙◌, arith}
-use Rattle.std.proofs.lemmas.Bool.Decides.{leb_tells}
+use Rattle.std.proofs.Common.{◌≡◌, ℕ, ◌-◌, ◌<◌, Bool, List, [], length, get_or, replicate, Some, None, IfSome, if◌then◌else◌, true, ◌||◌, inl, inr, refl, sym, ap, subst, ◌∙◌, arith}
+use Rattle.std.proofs.lemmas.Bool.Decides.{eqb_tells, leb_tells}
 use Rattle.std.specs.Option.{is_some}
+use Rattle.std.specs.declared.option.Option.{Option}
 use Rattle.route_table.specs.Sound.{or_on}
 use Rattle.std.proofs.lemmas.List.{get_or-replicate, get_or_past, length-replicate}
 use Rattle.irq_base.specs.declared.call.Row.{Row}
 use Rattle.irq_base.specs.declared.event.Pin.TheVariants.{Pic, Ioapic}
 use Rattle.irq_base.specs.declared.message.Targets.{Targets}
 use Rattle.route_table.specs.Words.{targets_in}
-use Rattle.route_table.specs.Rows.{reasons_after, pic_in, ioapic_in, has_target, first_given, refusal_of}
+use Rattle.route_table.specs.Rows.{reasons_after, gsi_in, pic_in, ioapic_in, has_target, first_given, refusal_of}
 use Rattle.route_table.specs.Pins.{owner, gsi_of}
-use Rattle.route_table.specs.Sound.{sound_of}
+use Rattle.route_table.specs.Sound.{Sound, sound_of, owner-row}
 use Rattle.route_table.specs.Standing.{Stands}
 use Rattle.route_table.specs.Tables.{table_in, IsTable}
 use Rattle.route_table.specs.TableLaws.{table_in-rows, targets_of-words, gsi_told, gsi_found}
@@ -67,6 +68,28 @@ ioapic_owner words spare pics ioapics n t =
     ap gsi_told (t.made.1.ioapic_owners n)
     ∙ sym (gsi_found (λ x. x.ioapic) ioapic_in (λ _ _. refl) refl ioapic_target rows sound sound.ioapic sound.ioapic_owned n)
     ∙ ap (λ table. gsi_of table (Ioapic n)) (sym (table_in-rows words pics ioapics rows t.made.1))
+
+-- ---- a pin's word is in range
+
+word_low : (f : Row → Option ℕ) (rows : List Row) (n : ℕ) → Sound rows → owner f n rows < 4097
+word_low f rows n s =
+    elim (eqb_tells (owner f n rows) 0) [
+      | inl h ↦ omega (arith, h.1)
+      | inr h ↦ let found = owner-row f n rows (owner f n rows) refl h.1 in let low : gsi_in found.0 < 4096 = s.low found.0 found.1 in omega (arith, low, found.2)
+    ]
+
+pub pic_low : (words spare pics ioapics : List ℕ) (n : ℕ) → IsTable words spare pics ioapics → get_or pics n 0 < 4097
+pic_low words spare pics ioapics n t = let low : owner pic_in n t.made.0 < 4097 = word_low pic_in t.made.0 n (sound_of t.made.0 t.made.2) in omega (arith, low, t.made.1.pic_owners n)
+
+pub ioapic_low : (words spare pics ioapics : List ℕ) (n : ℕ) → IsTable words spare pics ioapics → get_or ioapics n 0 < 4097
+ioapic_low words spare pics ioapics n t = let low : owner ioapic_in n t.made.0 < 4097 = word_low ioapic_in t.made.0 n (sound_of t.made.0 t.made.2) in omega (arith, low, t.made.1.ioapic_owners n)
+
+pub told_low : (v : ℕ) → v < 4097 → IfSome (gsi_told v) (λ gsi. gsi < 4096)
+told_low v low =
+    elim (eqb_tells v 0) [
+      | inl h ↦ subst (λ (b : Bool). IfSome (if b then None else Some (v - 1)) (λ gsi. gsi < 4096)) (sym h.0) tt
+      | inr h ↦ subst (λ (b : Bool). IfSome (if b then None else Some (v - 1)) (λ gsi. gsi < 4096)) (sym h.0) (omega (arith, h.1, low))
+    ]
 
 pub ruleset refill_rules = (stands_none)
 

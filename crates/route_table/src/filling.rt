@@ -107,7 +107,8 @@ fn add(words: &mut [u64], pics: &mut [u16], ioapics: &mut [u16], row: &Row) -> R
 /// Where the word of a GSI sends it.
 #[tactic(auto, using(crate::specs::StandingLaws::past_rules))]
 pub fn route_at(words: &[u64], gsi: u16) -> Targets
-    ensures { result ≡ route_at words.now gsi }
+    ensures value { result ≡ route_at words.now gsi }
+    ensures route { IsTrue (is_route result) }
 {
     if (gsi as usize) < words.len() {
         decode(words[gsi as usize]).0

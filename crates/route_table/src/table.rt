@@ -1,5 +1,6 @@
 //! The routing table.
-ghost use Rattle.std.specs.Prelude.{◌≡◌, ◌<◌, IfOk, OnErr, OnOk, MatchResult, Some, None, []};
+ghost use Rattle.std.specs.Prelude.{◌≡◌, ◌<◌, IfOk, OnErr, OnOk, MatchResult, IfSome, IsTrue, Some, None, []};
+ghost use Rattle.route_table.specs.Words.{is_route};
 ghost use Rattle.route_table.specs.Rows.{refusal_of, table_of, targets_of};
 ghost use Rattle.route_table.specs.Pins.{IsPin, gsi_of};
 ghost use Rattle.route_table.specs.TableLaws.{gsi_told};
@@ -11,7 +12,8 @@ use std::alloc::Global;
 use std::marker::Model;
 use std::mem;
 
-/// Where each GSI below 4,096 goes, and whose each pin is.
+/// The routing table: where each GSI below 4,096 goes, and which GSI each pin has. Contracts see the finite map from the
+/// GSIs that go somewhere to their targets.
 #[derive(Drop)]
 pub struct Table {
     /// The words of the GSIs.
@@ -87,8 +89,11 @@ impl Table {
         })
     }
 
-    /// Replaces the rows. The first reason to refuse them is answered, and the table is then unchanged: more than 4,096
-    /// rows before all else, then row by row what `row_reasons` lists.
+    /// Replaces the rows (KVM_SET_GSI_ROUTING). More than 4,096 rows are `Full`. Then the first row that breaks a rule is
+    /// refused, for the first rule that it breaks: `NoGsi` for a GSI of 4,096 or more, `BadRow` for a pin that the chip
+    /// does not have, `BadMsi` for an address that is none of messages, `ChipTwice` for an earlier row of this GSI with a
+    /// pin of the same chip, `Mixed` for an earlier row of this GSI where one of the two is a message, and `PinTwice` for
+    /// an earlier row with this pin. After a refusal the table is unchanged. It takes no memory.
     #[tactic(auto, using(crate::specs::Filled::replace_rules))]
     pub fn replace(&mut self, rows: &Rows) -> Result<(), Refusal>
         ensures refusal { MatchResult result (λ _. refusal_of rows.now ≡ None) (λ r. refusal_of rows.now ≡ Some r) }
@@ -108,11 +113,12 @@ impl Table {
         }
     }
 
-    /// Where a GSI goes.
+    /// Where a GSI goes: to pins that the chips have or to a message alone whose address is one of messages, or nowhere.
     #[tactic(auto, using(crate::specs::Filled::look_rules))]
     pub fn targets(&self, gsi: u16) -> Targets
         requires { gsi < 4096 }
-        ensures { result ≡ targets_of self.now gsi }
+        ensures value { result ≡ targets_of self.now gsi }
+        ensures route { IsTrue (is_route result) }
     {
         route_at(self.words.as_slice(), gsi)
     }
@@ -121,7 +127,8 @@ impl Table {
     #[tactic(auto, using(crate::specs::Filled::pin_rules))]
     pub fn gsi_of(&self, pin: Pin) -> Option<u16>
         requires { IsPin pin }
-        ensures { result ≡ gsi_of self.now pin }
+        ensures value { result ≡ gsi_of self.now pin }
+        ensures range { IfSome result (λ gsi. gsi < 4096) }
     {
         match pin {
             Pin::Pic(number) => gsi_told(self.pics[number as usize]),
