@@ -1,16 +1,10 @@
 -- The routing table and the registrations, the first part of a board.
 use Rattle.std.specs.Prelude.{ℕ, List}
 use Rattle.std.specs.declared.option.Option.{Option}
-use Rattle.std.specs.FinMap as map
-use Rattle.std.specs.Ordering.{nat_cmp}
 use Rattle.irq_base.specs.declared.call.Space.{Space}
-use Rattle.irq_base.specs.declared.message.Targets.{Targets}
 use Rattle.ack_notifiers.specs.declared.watches.Watch.{Watch}
 use Rattle.irqfd_set.specs.declared.irqfds.Irqfd.{Irqfd}
-
--- where each GSI goes that a row names (KVM_SET_GSI_ROUTING)
-abbrev pub Table : Type 0
-Table = map.FinMap nat_cmp Targets
+use Rattle.route_table.specs.Rows.{Table}
 
 -- an ioeventfd (KVM_IOEVENTFD): the counter is bound to guest writes at an address; length 0 stands for any length
 pub record IoEvent : Type 0 where
