@@ -1,0 +1,207 @@
+-- A sending reaches exactly the sets that may be reached.
+use Rattle.std.proofs.Common.{◌≡◌, ℕ, zero, suc, ◌<◌, Bool, true, false, cond, not, ◌&&◌, ◌||◌, nat_eq, nat_lt, if◌then◌else◌, filter, List, [], ◌∷◌, ◌++◌, refl, sym, ap, ◌∙◌, subst, append-nil, arith, Some, None}
+use Rattle.std.specs.declared.option.Option.{Option}
+use Rattle.std.specs.FinSet as set
+use Rattle.std.specs.FinSet.{contains-empty, contains-union, same_set, nat_cmp-IsAntisymmetric}
+use Rattle.std.specs.Ordering.{nat_cmp}
+use Rattle.std.specs.Cmp.{nat_cmp_total}
+use Rattle.irq_bits.specs.Members.{Numbers}
+use Rattle.irq_bits.specs.SetLemmas.{contains-insert_number}
+use Rattle.irq_base.specs.declared.message.Message.{Message}
+use Rattle.irq_base.specs.declared.shape.Part.TheVariants.{Lapic}
+use Rattle.irq_base.specs.declared.status.Cause.TheVariants.{Mode as BadMode}
+use Rattle.lapic.specs.declared.outcome.Shorthand.{Shorthand}
+use Rattle.lapic.specs.declared.outcome.Shorthand.TheVariants.{Field, OwnOnly, All, Others}
+use Rattle.lapic.specs.Messages.{accepted, dest_view}
+use Rattle.dest_match.specs.Match.{does_match, broadcast}
+use Rattle.board_model.specs.Board.{Board, part_of, with_part}
+use Rattle.board_model.specs.Statuses.{TargetAnswer}
+use Rattle.board_model.specs.Plan.{About, Plan, done, put, ◌>>=◌, ◌>>◌}
+use Rattle.board_model.specs.Run.{Wishes, Outcome, silence, next_wish, later_wishes, run, then_run}
+use Rattle.board_model.specs.Following.{reached}
+use Rattle.board_model.proofs.Sequence.{run-bind}
+use Rattle.board_raise.specs.Named.{Processor, does_hear, is_named, named_by, chosen_of, numbers_of}
+use Rattle.board_raise.specs.Send.{ignore, numbers_below, only, reached_by, see_each, has_request, parted, accept_each, deliver, refuse_vector, send_to, send}
+use Rattle.board_raise.specs.Laws.{processors_on, named_on, IsNumbered, IsSent, IsOneSending, ChoosesExactly, WishesReachExactly}
+use Rattle.board_raise.proofs.Choice.{wishes_choose_exactly}
+
+-- ---- the processors that are looked at
+
+abbrev seen : Board → List Processor → Wishes → Outcome (List Processor)
+seen b ps ws = record { value = ps; log = silence; board = b; wishes = ws }
+
+seen_each : (b : Board) (ns : List ℕ) (ws : Wishes) → run (see_each ns) b ws ≡ seen b (processors_on b ns) ws
+seen_each b [] ws = refl
+seen_each b (n ∷ ns) ws =
+    let f : List Processor → Plan (List Processor) = λ rest. done (record { number = n; apic = part_of b (Lapic n) } ∷ rest)
+    in run-bind f (see_each ns) b ws ∙ ap (λ o. then_run o f) (seen_each b ns ws)
+
+pub after_seen : {A : Type 0} (f : List Processor → Plan A) (b : Board) (ns : List ℕ) (ws : Wishes) → run (see_each ns >>= f) b ws ≡ run (f (processors_on b ns)) b ws
+after_seen f b ns ws = run-bind f (see_each ns) b ws ∙ ap (λ o. then_run o f) (seen_each b ns ws)
+
+-- ---- nobody is named who is not looked at
+
+module _ (b : Board) where
+  processors-append : (xs ys : List ℕ) → processors_on b (xs ++ ys) ≡ processors_on b xs ++ processors_on b ys
+  processors-append [] ys = refl
+  processors-append (n ∷ xs) ys = ap (λ l. record { number = n; apic = part_of b (Lapic n) } ∷ l) (processors-append xs ys)
+
+  module _ (p : Processor → Bool) where
+    filter-append : (xs ys : List Processor) → filter p (xs ++ ys) ≡ filter p xs ++ filter p ys
+    filter-append [] ys = refl
+    filter-append (x ∷ xs) ys = elim (p x) as (λ t. cond t (x ∷ filter p (xs ++ ys)) (filter p (xs ++ ys)) ≡ cond t (x ∷ filter p xs) (filter p xs) ++ filter p ys) [
+      | true ↦ ap (λ l. x ∷ l) (filter-append xs ys)
+      | false ↦ filter-append xs ys
+    ]
+
+    abbrev on : ℕ → Processor
+    on n = record { number = n; apic = part_of b (Lapic n) }
+
+    abbrev passing : List ℕ → List Processor
+    passing ns = filter p (processors_on b ns)
+
+    one_more : (c : ℕ) → passing (numbers_below (suc c)) ≡ passing (numbers_below c) ++ passing (c ∷ [])
+    one_more c = ap (filter p) (processors-append (numbers_below c) (c ∷ [])) ∙ filter-append (processors_on b (numbers_below c)) (processors_on b (c ∷ []))
+
+    only_below : (d c : ℕ) → nat_lt d c ≡ true → only d c ≡ d ∷ []
+    only_below d c h = ap (λ t. if t then d ∷ [] else []) h
+
+    only_above : (d c : ℕ) → nat_lt d c ≡ false → only d c ≡ []
+    only_above d c h = ap (λ t. if t then d ∷ [] else []) h
+
+    fails_alone : (n : ℕ) → p (on n) ≡ false → passing (n ∷ []) ≡ []
+    fails_alone n fails = ap (λ t. cond t (on n ∷ []) []) fails
+
+    -- where the last one does not pass, whether it is looked at or not
+    step_out : (d c : ℕ) → p (on c) ≡ false → passing (only d (suc c)) ≡ passing (only d c)
+    step_out d c fails = elim (nat_lt d c) as (λ t. nat_lt d c ≡ t → passing (only d (suc c)) ≡ passing (only d c)) [
+      | true ↦ λ below. let later : nat_lt d (suc c) ≡ true = grind (below, arith) in ap passing (only_below d (suc c) later ∙ sym (only_below d c below))
+      | false ↦ λ above. elim (nat_lt d (suc c)) as (λ t. nat_lt d (suc c) ≡ t → passing (only d (suc c)) ≡ passing (only d c)) [
+        | true ↦ λ later. let same : d ≡ c = grind (above, later, arith) in
+            ap passing (only_below d (suc c) later) ∙ ap (λ n. passing (n ∷ [])) same ∙ fails_alone c fails ∙ sym (ap passing (only_above d c above))
+        | false ↦ λ later. ap passing (only_above d (suc c) later ∙ sym (only_above d c above))
+      ] refl
+    ] refl
+
+    -- where no other number passes, it is enough to look at one
+    one_enough : (d cpus : ℕ) → ((n : ℕ) → n < cpus → p (on n) ≡ true → n ≡ d) → passing (only d cpus) ≡ passing (numbers_below cpus)
+    one_enough d zero sole = let above : nat_lt d 0 ≡ false = grind arith in ap passing (only_above d 0 above)
+    one_enough d (suc c) sole = elim (p (on c)) as (λ t. p (on c) ≡ t → passing (only d (suc c)) ≡ passing (numbers_below (suc c))) [
+      | true ↦ λ passes.
+          let last : c < suc c = omega arith in
+          let same : c ≡ d = sole c last passes in
+          let later : nat_lt d (suc c) ≡ true = grind (same, arith) in
+          let above : nat_lt d c ≡ false = grind (same, arith) in
+          let earlier : passing (only d c) ≡ passing (numbers_below c) = one_enough d c (λ n below. sole n (omega (below, arith))) in
+          ap passing (only_below d (suc c) later)
+          ∙ ap (λ n. passing (n ∷ [])) (sym same)
+          ∙ ap (λ l. l ++ passing (c ∷ [])) (sym (ap passing (only_above d c above)) ∙ earlier)
+          ∙ sym (one_more c)
+      | false ↦ λ fails.
+          let earlier : passing (only d c) ≡ passing (numbers_below c) = one_enough d c (λ n below. sole n (omega (below, arith))) in
+          step_out d c fails ∙ earlier ∙ sym (append-nil (passing (numbers_below c))) ∙ ap (λ l. passing (numbers_below c) ++ l) (sym (fails_alone c fails)) ∙ sym (one_more c)
+    ] refl
+
+-- a physical destination that is matched is the number
+matched : (logical matches hears : Bool) (d n : ℕ) → logical ≡ false → nat_eq d broadcast ≡ false → ((if logical then matches else (nat_eq d broadcast || nat_eq d n)) && hears) ≡ true → n ≡ d
+matched logical matches hears d n physical single h = grind (physical, single, h, arith)
+
+is_number : (n sender : ℕ) (hears : Bool) → (nat_eq n sender && hears) ≡ true → n ≡ sender
+is_number n sender hears h = grind (h, arith)
+
+module _ (b : Board) (cpus : ℕ) (message : Message) (numbered : IsNumbered b cpus) where
+  -- whatever the destination is, where the named ones are those that match
+  by_destination : (p : Processor → Bool) → ((q : Processor) → p q ≡ (does_match (dest_view q.apic) message && does_hear message.mode q.apic))
+      → filter p (processors_on b (if message.logical then numbers_below cpus else if nat_eq message.dest broadcast then numbers_below cpus else only message.dest cpus)) ≡ filter p (processors_on b (numbers_below cpus))
+  by_destination p is = elim message.logical as (λ l. message.logical ≡ l → filter p (processors_on b (if l then numbers_below cpus else if nat_eq message.dest broadcast then numbers_below cpus else only message.dest cpus)) ≡ filter p (processors_on b (numbers_below cpus))) [
+    | true ↦ λ _. refl
+    | false ↦ λ physical. elim (nat_eq message.dest broadcast) as (λ t. nat_eq message.dest broadcast ≡ t → filter p (processors_on b (if t then numbers_below cpus else only message.dest cpus)) ≡ filter p (processors_on b (numbers_below cpus))) [
+      | true ↦ λ _. refl
+      | false ↦ λ single. one_enough b p message.dest cpus (λ n below passes.
+          sym (numbered n below)
+          ∙ matched message.logical _ (does_hear message.mode (part_of b (Lapic n))) message.dest (part_of b (Lapic n)).number physical single
+          (sym (is (record { number = n; apic = part_of b (Lapic n) })) ∙ passes))
+    ] refl
+  ] refl
+
+  none_overlooked : (from : Option (ℕ × Shorthand)) → named_by message from (processors_on b (reached_by message from cpus)) ≡ named_on b cpus message from
+  none_overlooked None = by_destination (is_named message None) (λ q. refl)
+  none_overlooked (Some (sender, Field)) = by_destination (is_named message (Some (sender, Field))) (λ q. refl)
+  none_overlooked (Some (sender, OwnOnly)) = one_enough b (is_named message (Some (sender, OwnOnly))) sender cpus (λ n below passes. is_number n sender _ passes)
+  none_overlooked (Some (sender, All)) = refl
+  none_overlooked (Some (sender, Others)) = refl
+
+-- ---- who is reached
+
+module _ (message : Message) where
+  both_parts : (ps : List Processor) (q : ℕ)
+      → (set.contains (numbers_of (filter (λ p. not (has_request message p)) ps)) q || set.contains (numbers_of (filter (has_request message) ps)) q) ≡ set.contains (numbers_of ps) q
+  both_parts [] q = ap (λ t. t || set.contains (numbers_of []) q) (contains-empty nat_cmp q)
+  both_parts (p ∷ ps) q = elim (has_request message p) as (λ t. (set.contains (numbers_of (cond (not t) (p ∷ news) news)) q || set.contains (numbers_of (cond t (p ∷ olds) olds)) q) ≡ set.contains (set.insert (numbers_of ps) p.number) q) [
+    | true ↦ ap (λ t. set.contains (numbers_of news) q || t) (contains-insert_number (numbers_of olds) p.number q) ∙ last_in _ _ _ _ (both_parts ps q) ∙ sym (contains-insert_number (numbers_of ps) p.number q)
+    | false ↦ ap (λ t. t || set.contains (numbers_of olds) q) (contains-insert_number (numbers_of news) p.number q) ∙ first_in _ _ _ _ (both_parts ps q) ∙ sym (contains-insert_number (numbers_of ps) p.number q)
+  ]
+    where
+      news : List Processor
+      news = filter (λ p. not (has_request message p)) ps
+
+      olds : List Processor
+      olds = filter (has_request message) ps
+
+      first_in : (e a c s : Bool) → (a || c) ≡ s → ((e || a) || c) ≡ (e || s)
+      first_in true a c s h = refl
+      first_in false a c s h = h
+
+      last_in : (e a c s : Bool) → (a || c) ≡ s → (a || (e || c)) ≡ (e || s)
+      last_in true true c s h = refl
+      last_in true false c s h = refl
+      last_in false a c s h = h
+
+  all_reached : (chosen : List Processor) → reached (parted message chosen) ≡ numbers_of chosen
+  all_reached chosen = same_set nat_cmp_total nat_cmp-IsAntisymmetric _ _ (λ q. contains-union nat_cmp_total _ _ q ∙ both_parts chosen q)
+
+  -- to accept sends nothing
+  sends_nothing : {A : Type 0} (a : A) (takers : Numbers) (ps : List Processor) (b : Board) (ws : Wishes) → (run (accept_each message takers ps >> done a) b ws).log.sendings ≡ []
+  sends_nothing a takers [] b ws = refl
+  sends_nothing a takers (p ∷ ps) b ws = elim (set.contains takers p.number) as (λ t. (run ((if t then put (Lapic p.number) (accepted p.apic message) (accept_each message takers ps) else accept_each message takers ps) >> done a) b ws).log.sendings ≡ []) [
+    | true ↦ sends_nothing a takers ps (with_part b (Lapic p.number) (accepted p.apic message)) ws
+    | false ↦ sends_nothing a takers ps b ws
+  ]
+
+-- ---- exactly
+
+module _ (cpus : ℕ) (message : Message) (from : Option (ℕ × Shorthand)) (about : About) (b : Board) where
+  abbrev f : List Processor → Plan TargetAnswer
+  f processors = send_to message from about processors (named_by message from processors)
+
+  -- a message that comes to be sent is delivered to the named ones
+  is_delivered : (named : List Processor) → IsSent message named → named_by message from (processors_on b (reached_by message from cpus)) ≡ named → (ws : Wishes)
+      → run (send cpus message from about) b ws ≡ run (deliver message from about (processors_on b (reached_by message from cpus)) named) b ws
+  is_delivered [] sent is ws = absurd (omega (sent.someone, arith))
+  is_delivered (p ∷ ps) sent is ws =
+      ap (λ t. run (if not t then ignore about BadMode else (see_each (reached_by message from cpus) >>= f)) b ws) sent.taken
+      ∙ after_seen f b (reached_by message from cpus) ws
+      ∙ ap (λ l. run (send_to message from about (processors_on b (reached_by message from cpus)) l) b ws) is
+      ∙ ap (λ t. run (if t then refuse_vector message about (processors_on b (reached_by message from cpus)) (p ∷ ps) else deliver message from about (processors_on b (reached_by message from cpus)) (p ∷ ps)) b ws) sent.legal
+
+  one_sending : (named : List Processor) → IsSent message named → named_by message from (processors_on b (reached_by message from cpus)) ≡ named → (ws : Wishes)
+      → IsOneSending message from (numbers_of (chosen_of message.mode (next_wish ws) named)) (run (send cpus message from about) b ws).log.sendings
+  one_sending named is_sent is ws = record {
+    sent = parted message (chosen_of message.mode (next_wish ws) named);
+    one = ap (λ o. o.log.sendings) (is_delivered named is_sent is ws)
+        ∙ ap (λ l. record { heading = record { message = message; from = from }; sent = parted message (chosen_of message.mode (next_wish ws) named) } ∷ l)
+        (sends_nothing message _ _ (processors_on b (reached_by message from cpus)) b (later_wishes ws));
+    reaches = all_reached message (chosen_of message.mode (next_wish ws) named);
+  }
+
+pub wishes_reach_exactly : WishesReachExactly
+wishes_reach_exactly cpus message from about b numbered is_sent = record {
+  only = λ ws. (numbers_of (chosen_of message.mode (next_wish ws) (named_on b cpus message from)), chooses.only (next_wish ws), one_sending cpus message from about b (named_on b cpus message from) is_sent overlooked ws);
+  every = λ s may. let wished = chooses.every s may in (wished.0, subst (λ r. IsOneSending message from r (run (send cpus message from about) b (wished.0 ∷ [])).log.sendings) wished.1 (one_sending cpus message from about b (named_on b cpus message from) is_sent overlooked (wished.0 ∷ [])));
+}
+  where
+    chooses : ChoosesExactly message.mode (named_on b cpus message from)
+    chooses = wishes_choose_exactly message.mode (named_on b cpus message from) is_sent.someone
+
+    overlooked : named_by message from (processors_on b (reached_by message from cpus)) ≡ named_on b cpus message from
+    overlooked = none_overlooked b cpus message numbered from

@@ -1,0 +1,64 @@
+-- What holds of every sending: the sets of processors that are reached under all wishes are those that may be reached.
+use Rattle.std.specs.Prelude.{◌≡◌, ℕ, ◌<◌, true, false, List, [], ◌∷◌, length}
+use Rattle.std.specs.declared.option.Option.{Option}
+use Rattle.irq_bits.specs.Members.{Numbers}
+use Rattle.irq_base.specs.declared.message.Message.{Message}
+use Rattle.irq_base.specs.declared.message.Mode.{Mode}
+use Rattle.irq_base.specs.declared.shape.Part.TheVariants.{Lapic}
+use Rattle.lapic.specs.declared.outcome.Shorthand.{Shorthand}
+use Rattle.lapic.specs.Messages.{is_taken}
+use Rattle.board_model.specs.Board.{Board, part_of}
+use Rattle.board_model.specs.Statuses.{Sent}
+use Rattle.board_model.specs.Plan.{About}
+use Rattle.board_model.specs.Run.{Wishes, Sending, run}
+use Rattle.board_model.specs.Following.{reached}
+use Rattle.board_raise.specs.Named.{Processor, named_by, chosen_of, numbers_of, MayReach}
+use Rattle.board_raise.specs.Send.{numbers_below, is_illegal, send}
+
+-- ---- of the choice alone
+
+-- under each wish a set is chosen that may be reached, and each set that may be reached is chosen under some wish
+pub record ChoosesExactly (mode : Mode) (named : List Processor) : Type 0 where
+  pub only : (wish : Numbers) → MayReach mode named (numbers_of (chosen_of mode wish named))
+  pub every : (s : Numbers) → MayReach mode named s → (wish : Numbers) × (numbers_of (chosen_of mode wish named) ≡ s)
+
+-- so it is wherever somebody is named
+abbrev pub WishesChooseExactly : Type 0
+WishesChooseExactly = (mode : Mode) (named : List Processor) → 0 < length named → ChoosesExactly mode named
+
+-- ---- of a sending on a board
+
+-- these processors of a board
+abbrev pub processors_on : Board → List ℕ → List Processor
+processors_on b [] = []
+processors_on b (n ∷ ns) = record { number = n; apic = part_of b (Lapic n) } ∷ processors_on b ns
+
+-- the processors, of all of the board, that a message names
+abbrev pub named_on : Board → ℕ → Message → Option (ℕ × Shorthand) → List Processor
+named_on b cpus message from = named_by message from (processors_on b (numbers_below cpus))
+
+-- each local APIC has the number of its place
+abbrev pub IsNumbered : Board → ℕ → Type 0
+IsNumbered b cpus = (n : ℕ) → n < cpus → (part_of b (Lapic n)).number ≡ n
+
+-- a message that comes to be sent: local APICs take its mode, it names some, and its vector is legal
+pub record IsSent (message : Message) (named : List Processor) : Type 0 where
+  pub taken : is_taken message.mode ≡ true
+  pub someone : 0 < length named
+  pub legal : is_illegal message ≡ false
+
+-- these messages are one, and it reached that set of processors
+pub record IsOneSending (message : Message) (from : Option (ℕ × Shorthand)) (s : Numbers) (sendings : List Sending) : Type 0 where
+  pub sent : Sent
+  pub one : sendings ≡ record { heading = record { message = message; from = from }; sent = sent } ∷ []
+  pub reaches : reached sent ≡ s
+
+-- the message is sent once, under each wish to a set that may be reached, and to each set that may be reached under some
+-- wish
+pub record ReachesExactly (cpus : ℕ) (message : Message) (from : Option (ℕ × Shorthand)) (about : About) (b : Board) : Type 0 where
+  pub only : (ws : Wishes) → (s : Numbers) × MayReach message.mode (named_on b cpus message from) s × IsOneSending message from s (run (send cpus message from about) b ws).log.sendings
+  pub every : (s : Numbers) → MayReach message.mode (named_on b cpus message from) s → (wish : Numbers) × IsOneSending message from s (run (send cpus message from about) b (wish ∷ [])).log.sendings
+
+-- so it is of each message that comes to be sent
+abbrev pub WishesReachExactly : Type 0
+WishesReachExactly = (cpus : ℕ) (message : Message) (from : Option (ℕ × Shorthand)) (about : About) (b : Board) → IsNumbered b cpus → IsSent message (named_on b cpus message from) → ReachesExactly cpus message from about b

@@ -1,0 +1,4 @@
+pub mod Named
+pub mod Send
+pub mod Signal
+pub mod Laws

@@ -1,0 +1,138 @@
+-- A GSI is raised, lowered or injected (KVM API, KVM_IRQ_LINE_STATUS and KVM_IRQFD).
+use Rattle.std.specs.Prelude.{ℕ, Bool, true, false, Some, None}
+use Rattle.std.specs.declared.option.Option.{Option}
+use Rattle.std.specs.FinSet as set
+use Rattle.irq_base.specs.declared.message.Message.{Message}
+use Rattle.irq_base.specs.declared.message.MsiWord.{MsiWord}
+use Rattle.irq_base.specs.declared.message.Source.{Source}
+use Rattle.irq_base.specs.declared.message.Source.TheVariants.{Resample}
+use Rattle.irq_base.specs.declared.message.Targets.{Targets}
+use Rattle.irq_base.specs.declared.reply.Reply.TheVariants.{Signal}
+use Rattle.irq_base.specs.declared.shape.Part.TheVariants.{Pic, Ioapic}
+use Rattle.irq_base.specs.declared.status.Cause.TheVariants.{Masked, Unrouted}
+use Rattle.irq_base.specs.declared.status.Status.{Status}
+use Rattle.irq_base.specs.declared.status.Status.TheVariants.{Ignored, Lowered}
+use Rattle.pic_8259a.specs.declared.chip.PinOutcome.{PinOutcome}
+use Rattle.pic_8259a.specs.declared.chip.PinOutcome.TheVariants as outcomes
+use Rattle.pic_8259a.specs.Pair.{pin_set, pin_outcome}
+use Rattle.ioapic_82093aa.specs.declared.ioapic.Raise.{Raise}
+use Rattle.ioapic_82093aa.specs.declared.ioapic.Raise.TheVariants as raises
+use Rattle.ioapic_82093aa.specs.Pins.{raise_of, accepted}
+use Rattle.msi_decode.specs.Messages.{message_in}
+use Rattle.source_levels.specs.Holds.{hold}
+use Rattle.board_model.specs.Chips.{PicPart, pair_of, with_pair, IoapicPart, ioapic_of, with_ioapic}
+use Rattle.board_model.specs.Statuses.{TargetAnswer, newly_taken, stood_already, no_effect}
+use Rattle.board_model.specs.Plan.{About, Plan, done, see, set as put_part, change, reply, ◌>>=◌, ◌>>◌}
+use Rattle.board_raise.specs.Send.{show, send}
+
+-- ---- the pin of the 8259A pair
+
+-- the source holds the pin as well, and so the pin is high
+abbrev pub pic_raised : PicPart → ℕ → Source → PicPart
+pic_raised pic pin source = record (with_pair pic (pin_set (pair_of pic) pin true)) { holds = set.insert pic.holds (hold pin source) }
+
+-- the source holds the pin no longer; a pin with no hold left is low
+abbrev pub pic_let_go : PicPart → ℕ → Source → PicPart
+pic_let_go pic pin source = record pic { holds = set.remove pic.holds (hold pin source) }
+
+-- what the 8259A's answer is to the signal
+abbrev pub pic_answer : PinOutcome → TargetAnswer
+pic_answer outcomes.New = newly_taken
+pic_answer outcomes.Stood = stood_already
+pic_answer outcomes.Masked = no_effect Masked
+pic_answer outcomes.Lowered = stood_already
+
+-- the 8259A pin of the GSI is raised, if it has one
+abbrev pub raise_pic : Option ℕ → Source → Plan (Option TargetAnswer)
+raise_pic None source = done None
+raise_pic (Some pin) source = do
+  pic ← see Pic
+  put_part Pic (pic_raised pic pin source)
+  done (Some (pic_answer (pin_outcome (pair_of pic) pin true)))
+
+-- ---- the pin of the I/O APIC
+
+-- the source holds the pin as well, and so the pin is high
+abbrev pub ioapic_raised : IoapicPart → ℕ → Source → IoapicPart
+ioapic_raised part pin source = record part { holds = set.insert part.holds (hold pin source) }
+
+-- the source holds the pin no longer; a pin with no hold left is low
+abbrev pub ioapic_let_go : IoapicPart → ℕ → Source → IoapicPart
+ioapic_let_go part pin source = record part { holds = set.remove part.holds (hold pin source) }
+
+-- processors took the message of a level-triggered pin, new or again: its remote IRR is set
+abbrev pub is_accepted : Message → TargetAnswer → Bool
+is_accepted message (no_effect cause) = false
+is_accepted message answer = message.level
+
+abbrev pub accept_pin : ℕ → Bool → Plan (Unit {0})
+accept_pin pin true = change Ioapic (λ part. with_ioapic part (accepted (ioapic_of part) pin))
+accept_pin pin false = done tt
+
+-- what the pin answers: masked, or its request stood, or it sends the message of its entry
+abbrev pub ioapic_answered : ℕ → ℕ → About → Raise → Plan (Unit {0})
+ioapic_answered cpus pin about raises.Masked = show about (Some (no_effect Masked))
+ioapic_answered cpus pin about raises.Stood = show about (Some stood_already)
+ioapic_answered cpus pin about (raises.Send message) = do
+  answer ← send cpus message None about
+  accept_pin pin (is_accepted message answer)
+
+-- ---- raise
+
+-- the other target: a pin of the I/O APIC, or a message, which is sent at each raise, or none
+abbrev pub raise_other : ℕ → Option ℕ → Option MsiWord → Source → About → Plan (Unit {0})
+raise_other cpus (Some pin) msi source about = do
+  part ← see Ioapic
+  put_part Ioapic (ioapic_raised part pin source)
+  ioapic_answered cpus pin about (raise_of (ioapic_of part) pin)
+raise_other cpus None (Some word) source about = do
+  answer ← send cpus (message_in word.address word.payload) None about
+  done tt
+raise_other cpus None None source about = show about None
+
+-- a signal is raised on all targets of its GSI, the 8259A pin first; its status shows where `about` says, with what the
+-- 8259A pin answered
+abbrev pub raise : ℕ → Targets → Source → (Option TargetAnswer → About) → Plan (Unit {0})
+raise cpus targets source about = do
+  pic ← raise_pic targets.pic source
+  raise_other cpus targets.ioapic targets.msi source (about pic)
+
+-- ---- lower
+
+abbrev pub let_go_pic : Option ℕ → Source → Plan (Unit {0})
+let_go_pic None source = done tt
+let_go_pic (Some pin) source = change Pic (λ pic. pic_let_go pic pin source)
+
+abbrev pub let_go_ioapic : Option ℕ → Source → Plan (Unit {0})
+let_go_ioapic None source = done tt
+let_go_ioapic (Some pin) source = change Ioapic (λ part. ioapic_let_go part pin source)
+
+-- the source holds no pin of the targets any longer, whether it held them or not
+abbrev pub let_go : Targets → Source → Plan (Unit {0})
+let_go targets source = do
+  let_go_pic targets.pic source
+  let_go_ioapic targets.ioapic source
+
+-- the status of a lowered signal, also of a message; a GSI without targets is not routed
+abbrev pub lowered_status : Option ℕ → Option ℕ → Option MsiWord → Status
+lowered_status None None None = Ignored Unrouted
+lowered_status pic ioapic msi = Lowered
+
+-- a signal is lowered on all targets of its GSI, and the reply is its status
+abbrev pub lower : Targets → Source → Plan (Unit {0})
+lower targets source = do
+  let_go targets source
+  reply (Signal (lowered_status targets.pic targets.ioapic targets.msi))
+
+-- ---- inject
+
+-- after the raise of an injection the source lets go, but for a resampler, which holds until an acknowledge
+abbrev pub let_go_after : Targets → Source → Plan (Unit {0})
+let_go_after targets Resample = done tt
+let_go_after targets source = let_go targets source
+
+-- a signal is raised and lowered at once, with the status of the raise; one by a resampler is raised alone
+abbrev pub inject : ℕ → Targets → Source → (Option TargetAnswer → About) → Plan (Unit {0})
+inject cpus targets source about = do
+  raise cpus targets source about
+  let_go_after targets source

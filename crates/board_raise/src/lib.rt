@@ -1,0 +1,20 @@
+//! Signals of a board: a message is sent, a GSI is raised, lowered or injected.
+//!
+//! Reading order of the definitions: `Named` (for which processors a message is), `Send` (its five steps), `Signal` (a GSI is
+//! raised, lowered or injected), `Laws`. The functions here have no body; the contract of each is a law.
+#![tactic(auto)]
+
+ghost use Rattle.board_raise.specs.Laws.{WishesChooseExactly, WishesReachExactly};
+
+/// A law: of some named processors the sets that are chosen under all wishes are those that may be reached.
+#[tactic(auto, using(crate::proofs::Choice::wishes_choose_exactly))]
+pub fn wishes_choose_exactly()
+    ensures { WishesChooseExactly }
+{}
+
+/// A law: a message that comes to be sent is sent once, and the sets of processors that it reaches under all wishes are
+/// those that it may reach: all the named ones of the board, or for lowest priority any one of least PPR.
+#[tactic(auto, using(crate::proofs::Sending::wishes_reach_exactly))]
+pub fn wishes_reach_exactly()
+    ensures { WishesReachExactly }
+{}
