@@ -10,6 +10,8 @@ mod messages;
 #[cfg(test)]
 mod pic;
 #[cfg(test)]
+mod registries;
+#[cfg(test)]
 mod tables;
 #[cfg(test)]
 mod types;
