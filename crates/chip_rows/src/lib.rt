@@ -10,6 +10,8 @@ mod messages;
 #[cfg(test)]
 mod pic;
 #[cfg(test)]
+mod registries;
+#[cfg(test)]
 mod routes;
 #[cfg(test)]
 mod tables;
