@@ -4,3 +4,4 @@ pub mod Signal
 pub mod Fit
 pub mod Laws
 pub mod PinLaws
+pub mod ReachLaws

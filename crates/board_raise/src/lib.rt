@@ -6,6 +6,7 @@
 
 ghost use Rattle.board_raise.specs.Laws.{WishesChooseExactly, WishesReachExactly};
 ghost use Rattle.board_raise.specs.PinLaws.{PicPinsFollowHolds, IoapicPinsFollowHolds};
+ghost use Rattle.board_raise.specs.ReachLaws.{SendsReachTheSame};
 
 /// A law: of some named processors the sets that are chosen under all wishes are those that may be reached.
 #[tactic(auto, using(crate::proofs::Choice::wishes_choose_exactly))]
@@ -29,4 +30,9 @@ pub fn pic_pins_follow_holds()
 /// A law: so it is of a pin of the I/O APIC.
 pub fn ioapic_pins_follow_holds()
     ensures { IoapicPinsFollowHolds }
+{}
+
+/// A law: a sending looks at and writes the local APICs that its message tells, the same under all wishes.
+pub fn sends_reach_the_same()
+    ensures { SendsReachTheSame }
 {}
