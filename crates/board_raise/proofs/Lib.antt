@@ -1,2 +1,4 @@
 pub mod Choice
 pub mod Sending
+pub mod Pins
+pub mod Reaching

@@ -27,10 +27,10 @@ use Rattle.board_raise.proofs.Choice.{wishes_choose_exactly}
 
 -- ---- the processors that are looked at
 
-abbrev seen : Board → List Processor → Wishes → Outcome (List Processor)
+abbrev pub seen : Board → List Processor → Wishes → Outcome (List Processor)
 seen b ps ws = record { value = ps; log = silence; board = b; wishes = ws }
 
-seen_each : (b : Board) (ns : List ℕ) (ws : Wishes) → run (see_each ns) b ws ≡ seen b (processors_on b ns) ws
+pub seen_each : (b : Board) (ns : List ℕ) (ws : Wishes) → run (see_each ns) b ws ≡ seen b (processors_on b ns) ws
 seen_each b [] ws = refl
 seen_each b (n ∷ ns) ws =
     let f : List Processor → Plan (List Processor) = λ rest. done (record { number = n; apic = part_of b (Lapic n) } ∷ rest)

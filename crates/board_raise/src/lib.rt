@@ -5,6 +5,8 @@
 #![tactic(auto)]
 
 ghost use Rattle.board_raise.specs.Laws.{WishesChooseExactly, WishesReachExactly};
+ghost use Rattle.board_raise.specs.PinLaws.{PicPinsFollowHolds, IoapicPinsFollowHolds};
+ghost use Rattle.board_raise.specs.ReachLaws.{SendsReachTheSame};
 
 /// A law: of some named processors the sets that are chosen under all wishes are those that may be reached.
 #[tactic(auto, using(crate::proofs::Choice::wishes_choose_exactly))]
@@ -17,4 +19,20 @@ pub fn wishes_choose_exactly()
 #[tactic(auto, using(crate::proofs::Sending::wishes_reach_exactly))]
 pub fn wishes_reach_exactly()
     ensures { WishesReachExactly }
+{}
+
+/// A law: a pin of the 8259A pair is raised on its chip by each hold that comes, lowered when the last hold goes, and stays
+/// as it is while another source holds it.
+pub fn pic_pins_follow_holds()
+    ensures { PicPinsFollowHolds }
+{}
+
+/// A law: so it is of a pin of the I/O APIC.
+pub fn ioapic_pins_follow_holds()
+    ensures { IoapicPinsFollowHolds }
+{}
+
+/// A law: a sending looks at and writes the local APICs that its message tells, the same under all wishes.
+pub fn sends_reach_the_same()
+    ensures { SendsReachTheSame }
 {}
