@@ -2,3 +2,4 @@ pub mod Choice
 pub mod Sending
 pub mod Pins
 pub mod Reaching
+pub mod SignalReach

@@ -23,11 +23,11 @@ use Rattle.board_raise.specs.Laws.{processors_on}
 use Rattle.board_raise.specs.ReachLaws.{is_of_one, of_message, SendsReachTheSame}
 use Rattle.board_raise.proofs.Sending.{seen_each}
 
-or_false : (a : Bool) → (a || false) ≡ a
+pub or_false : (a : Bool) → (a || false) ≡ a
 or_false true = refl
 or_false false = refl
 
-absorbed : (x y : Bool) → (y ≡ true → x ≡ true) → (x || y) ≡ x
+pub absorbed : (x y : Bool) → (y ≡ true → x ≡ true) → (x || y) ≡ x
 absorbed true y f = refl
 absorbed false true f = sym (f refl)
 absorbed false false f = refl
@@ -92,7 +92,7 @@ module _ (cpus : ℕ) (message : Message) (from : Option (ℕ × Shorthand)) (ab
   abbrev ns : List ℕ
   ns = reached_by message from cpus
 
-  sends_reach : reaches (send cpus message from about) b ws q ≡ of_message message from cpus q
+  pub sends_reach : reaches (send cpus message from about) b ws q ≡ of_message message from cpus q
   sends_reach = elim (is_taken message.mode) as (λ t. reaches (if not t then ignore about BadMode else (see_each ns >>= f)) b ws q ≡ (t && is_of_one ns q)) [
     | true ↦ reach_after_seen q f b ns ws
         ∙ absorbed (is_of_one ns q) _ (λ h. sym (among_seen q b ns) ∙ sending_reach q message from about (processors_on b ns) b ws (named_by message from (processors_on b ns)) h)

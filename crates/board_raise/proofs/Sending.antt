@@ -8,6 +8,8 @@ use Rattle.std.specs.Cmp.{nat_cmp_total}
 use Rattle.irq_bits.specs.Members.{Numbers}
 use Rattle.irq_bits.specs.SetLemmas.{contains-insert_number}
 use Rattle.irq_base.specs.declared.message.Message.{Message}
+use Rattle.irq_base.specs.declared.message.Mode.{Mode}
+use Rattle.irq_base.specs.declared.message.Mode.TheVariants.{Fixed, Lowest, Smi, Nmi, Init, Startup, ExtInt, Reserved}
 use Rattle.irq_base.specs.declared.shape.Part.TheVariants.{Lapic}
 use Rattle.irq_base.specs.declared.status.Cause.TheVariants.{Mode as BadMode}
 use Rattle.lapic.specs.declared.outcome.Shorthand.{Shorthand}
@@ -15,14 +17,14 @@ use Rattle.lapic.specs.declared.outcome.Shorthand.TheVariants.{Field, OwnOnly, A
 use Rattle.lapic.specs.Messages.{accepted, dest_view}
 use Rattle.dest_match.specs.Match.{does_match, broadcast}
 use Rattle.board_model.specs.Board.{Board, part_of, with_part}
-use Rattle.board_model.specs.Statuses.{TargetAnswer}
-use Rattle.board_model.specs.Plan.{About, Plan, done, put, ◌>>=◌, ◌>>◌}
+use Rattle.board_model.specs.Statuses.{TargetAnswer, message_answer}
+use Rattle.board_model.specs.Plan.{About, events_of, answers_of, Plan, done, put, ◌>>=◌, ◌>>◌}
 use Rattle.board_model.specs.Run.{Wishes, Outcome, silence, next_wish, later_wishes, run, then_run}
 use Rattle.board_model.specs.Following.{reached}
 use Rattle.board_model.proofs.Sequence.{run-bind}
-use Rattle.board_raise.specs.Named.{Processor, does_hear, is_named, named_by, chosen_of, numbers_of}
+use Rattle.board_raise.specs.Named.{Processor, first_or, does_hear, is_named, named_by, chosen_of, numbers_of}
 use Rattle.board_raise.specs.Send.{ignore, numbers_below, only, reached_by, see_each, has_request, parted, accept_each, deliver, refuse_vector, send_to, send}
-use Rattle.board_raise.specs.Laws.{processors_on, named_on, IsNumbered, IsSent, IsOneSending, ChoosesExactly, WishesReachExactly}
+use Rattle.board_raise.specs.Laws.{processors_on, named_on, IsNumbered, IsSent, IsSending, ChoosesExactly, WishesReachExactly}
 use Rattle.board_raise.proofs.Choice.{wishes_choose_exactly}
 
 -- ---- the processors that are looked at
@@ -160,13 +162,87 @@ module _ (message : Message) where
   all_reached : (chosen : List Processor) → reached (parted message chosen) ≡ numbers_of chosen
   all_reached chosen = same_set nat_cmp_total nat_cmp-IsAntisymmetric _ _ (λ q. contains-union nat_cmp_total _ _ q ∙ both_parts chosen q)
 
-  -- to accept sends nothing
-  sends_nothing : {A : Type 0} (a : A) (takers : Numbers) (ps : List Processor) (b : Board) (ws : Wishes) → (run (accept_each message takers ps >> done a) b ws).log.sendings ≡ []
-  sends_nothing a takers [] b ws = refl
-  sends_nothing a takers (p ∷ ps) b ws = elim (set.contains takers p.number) as (λ t. (run ((if t then put (Lapic p.number) (accepted p.apic message) (accept_each message takers ps) else accept_each message takers ps) >> done a) b ws).log.sendings ≡ []) [
-    | true ↦ sends_nothing a takers ps (with_part b (Lapic p.number) (accepted p.apic message)) ws
-    | false ↦ sends_nothing a takers ps b ws
+  -- to accept shows nothing, and goes on
+  shows_nothing : {A : Type 0} (a : A) (takers : Numbers) (ps : List Processor) (b : Board) (ws : Wishes) → (run (accept_each message takers ps >> done a) b ws).log ≡ silence
+  shows_nothing a takers [] b ws = refl
+  shows_nothing a takers (p ∷ ps) b ws = elim (set.contains takers p.number) as (λ t. (run ((if t then put (Lapic p.number) (accepted p.apic message) (accept_each message takers ps) else accept_each message takers ps) >> done a) b ws).log ≡ silence) [
+    | true ↦ shows_nothing a takers ps (with_part b (Lapic p.number) (accepted p.apic message)) ws
+    | false ↦ shows_nothing a takers ps b ws
   ]
+
+  ends_with : {A : Type 0} (a : A) (takers : Numbers) (ps : List Processor) (b : Board) (ws : Wishes) → (run (accept_each message takers ps >> done a) b ws).value ≡ a
+  ends_with a takers [] b ws = refl
+  ends_with a takers (p ∷ ps) b ws = elim (set.contains takers p.number) as (λ t. (run ((if t then put (Lapic p.number) (accepted p.apic message) (accept_each message takers ps) else accept_each message takers ps) >> done a) b ws).value ≡ a) [
+    | true ↦ ends_with a takers ps (with_part b (Lapic p.number) (accepted p.apic message)) ws
+    | false ↦ ends_with a takers ps b ws
+  ]
+
+  -- ---- where the request was there before
+
+  -- each of these is as the board has it
+  AreOn : Board → List Processor → Type 0
+  AreOn b [] = Unit {0}
+  AreOn b (p ∷ ps) = (p.apic ≡ part_of b (Lapic p.number)) × AreOn b ps
+
+  module _ (b : Board) where
+    some_are_on : (t : Processor → Bool) (ps : List Processor) → AreOn b ps → AreOn b (filter t ps)
+    unfolding AreOn
+    some_are_on t [] h = tt
+    some_are_on t (p ∷ ps) h = elim (t p) as (λ k. AreOn b (cond k (p ∷ filter t ps) (filter t ps))) [ true ↦ (h.0, some_are_on t ps h.1) | false ↦ some_are_on t ps h.1 ]
+
+    seen_are_on : (ns : List ℕ) → AreOn b (processors_on b ns)
+    unfolding AreOn
+    seen_are_on [] = tt
+    seen_are_on (n ∷ ns) = (refl, seen_are_on ns)
+
+    first_is_on : (ps qs : List Processor) → AreOn b ps → AreOn b qs → AreOn b (first_or ps qs)
+    unfolding AreOn
+    first_is_on [] [] g h = tt
+    first_is_on [] (q ∷ qs) g h = (h.0, tt)
+    first_is_on (p ∷ ps) qs g h = (g.0, tt)
+
+    chosen_are_on : (mode : Mode) (wish : Numbers) (named : List Processor) → AreOn b named → AreOn b (chosen_of mode wish named)
+    chosen_are_on Lowest wish named h = first_is_on _ _ (some_are_on _ _ (some_are_on _ named h)) (some_are_on _ named h)
+    chosen_are_on Fixed wish named h = h
+    chosen_are_on Smi wish named h = h
+    chosen_are_on Nmi wish named h = h
+    chosen_are_on Init wish named h = h
+    chosen_are_on Startup wish named h = h
+    chosen_are_on ExtInt wish named h = h
+    chosen_are_on Reserved wish named h = h
+
+    -- a test of processors that the board decides by the number
+    module _ (t : Processor → Bool) where
+      those_passing : (ps : List Processor) → AreOn b ps → (n : ℕ) → set.contains (numbers_of (filter t ps)) n ≡ (set.contains (numbers_of ps) n && t (record { number = n; apic = part_of b (Lapic n) }))
+      unfolding AreOn
+      those_passing [] h n = contains-empty nat_cmp n ∙ ap (λ k. k && t (record { number = n; apic = part_of b (Lapic n) })) (sym (contains-empty nat_cmp n))
+      those_passing (p ∷ ps) h n =
+          elim (t p) as (λ k. t p ≡ k → set.contains (numbers_of (cond k (p ∷ filter t ps) (filter t ps))) n ≡ (set.contains (set.insert (numbers_of ps) p.number) n && t (record { number = n; apic = part_of b (Lapic n) }))) [
+            | true ↦ λ passes.
+                contains-insert_number (numbers_of (filter t ps)) p.number n
+                ∙ ap (λ k. nat_eq n p.number || k) (those_passing ps h.1 n)
+                ∙ one_passes (nat_eq n p.number) _ _ (λ same. at same passes)
+                ∙ ap (λ k. k && t (record { number = n; apic = part_of b (Lapic n) })) (sym (contains-insert_number (numbers_of ps) p.number n))
+            | false ↦ λ fails.
+                those_passing ps h.1 n
+                ∙ one_fails (nat_eq n p.number) _ _ (λ same. at same fails)
+                ∙ ap (λ k. k && t (record { number = n; apic = part_of b (Lapic n) })) (sym (contains-insert_number (numbers_of ps) p.number n))
+          ] refl
+        where
+          at : {k : Bool} → nat_eq n p.number ≡ true → t p ≡ k → t (record { number = n; apic = part_of b (Lapic n) }) ≡ k
+          at same is = let e : n ≡ p.number = grind (same, arith) in ap (λ m. t (record { number = m; apic = part_of b (Lapic m) })) e ∙ ap (λ a. t (record { number = p.number; apic = a })) (sym h.0) ∙ is
+
+          one_passes : (e c k : Bool) → (e ≡ true → k ≡ true) → (e || (c && k)) ≡ ((e || c) && k)
+          one_passes true c k f = sym (f refl)
+          one_passes false c k f = refl
+
+          one_fails : (e c k : Bool) → (e ≡ true → k ≡ false) → (c && k) ≡ ((e || c) && k)
+          one_fails true c k f = ap (λ r. c && r) (f refl) ∙ never c ∙ sym (f refl)
+            where
+              never : (c : Bool) → (c && false) ≡ false
+              never true = refl
+              never false = refl
+          one_fails false c k f = refl
 
 -- ---- exactly
 
@@ -184,20 +260,33 @@ module _ (cpus : ℕ) (message : Message) (from : Option (ℕ × Shorthand)) (ab
       ∙ ap (λ l. run (send_to message from about (processors_on b (reached_by message from cpus)) l) b ws) is
       ∙ ap (λ t. run (if t then refuse_vector message about (processors_on b (reached_by message from cpus)) (p ∷ ps) else deliver message from about (processors_on b (reached_by message from cpus)) (p ∷ ps)) b ws) sent.legal
 
-  one_sending : (named : List Processor) → IsSent message named → named_by message from (processors_on b (reached_by message from cpus)) ≡ named → (ws : Wishes)
-      → IsOneSending message from (numbers_of (chosen_of message.mode (next_wish ws) named)) (run (send cpus message from about) b ws).log.sendings
-  one_sending named is_sent is ws = record {
+  is_sending : (named : List Processor) → IsSent message named → named_by message from (processors_on b (reached_by message from cpus)) ≡ named → (ws : Wishes)
+      → IsSending message from about b (numbers_of (chosen_of message.mode (next_wish ws) named)) (run (send cpus message from about) b ws)
+  is_sending named is_sent is ws = record {
     sent = parted message (chosen_of message.mode (next_wish ws) named);
-    one = ap (λ o. o.log.sendings) (is_delivered named is_sent is ws)
-        ∙ ap (λ l. record { heading = record { message = message; from = from }; sent = parted message (chosen_of message.mode (next_wish ws) named) } ∷ l)
-        (sends_nothing message _ _ (processors_on b (reached_by message from cpus)) b (later_wishes ws));
+    once = ap (λ o. o.log.sendings) delivered
+        ∙ ap (λ l. record { heading = record { message = message; from = from }; sent = parted message (chosen_of message.mode (next_wish ws) named) } ∷ l.sendings) quiet;
     reaches = all_reached message (chosen_of message.mode (next_wish ws) named);
+    stood = those_passing message b (has_request message) (chosen_of message.mode (next_wish ws) named) on;
+    new = those_passing message b (λ p. not (has_request message p)) (chosen_of message.mode (next_wish ws) named) on;
+    events = ap (λ o. o.log.events) delivered ∙ ap (λ l. events_of about (parted message (chosen_of message.mode (next_wish ws) named)) ++ l.events) quiet ∙ append-nil _;
+    answers = ap (λ o. o.log.answers) delivered ∙ ap (λ l. answers_of about (parted message (chosen_of message.mode (next_wish ws) named)) ++ l.answers) quiet ∙ append-nil _;
+    value = ap (λ o. o.value) delivered ∙ ends_with message _ _ (processors_on b (reached_by message from cpus)) b (later_wishes ws);
   }
+    where
+      delivered : run (send cpus message from about) b ws ≡ run (deliver message from about (processors_on b (reached_by message from cpus)) named) b ws
+      delivered = is_delivered named is_sent is ws
+
+      on : AreOn message b (chosen_of message.mode (next_wish ws) named)
+      on = chosen_are_on message b message.mode (next_wish ws) named (subst (AreOn message b) is (some_are_on message b (is_named message from) (processors_on b (reached_by message from cpus)) (seen_are_on message b (reached_by message from cpus))))
+
+      quiet : (run (accept_each message (reached (parted message (chosen_of message.mode (next_wish ws) named))) (processors_on b (reached_by message from cpus)) >> done (message_answer (parted message (chosen_of message.mode (next_wish ws) named)))) b (later_wishes ws)).log ≡ silence
+      quiet = shows_nothing message _ _ (processors_on b (reached_by message from cpus)) b (later_wishes ws)
 
 pub wishes_reach_exactly : WishesReachExactly
 wishes_reach_exactly cpus message from about b numbered is_sent = record {
-  only = λ ws. (numbers_of (chosen_of message.mode (next_wish ws) (named_on b cpus message from)), chooses.only (next_wish ws), one_sending cpus message from about b (named_on b cpus message from) is_sent overlooked ws);
-  every = λ s may. let wished = chooses.every s may in (wished.0, subst (λ r. IsOneSending message from r (run (send cpus message from about) b (wished.0 ∷ [])).log.sendings) wished.1 (one_sending cpus message from about b (named_on b cpus message from) is_sent overlooked (wished.0 ∷ [])));
+  only = λ ws. (numbers_of (chosen_of message.mode (next_wish ws) (named_on b cpus message from)), chooses.only (next_wish ws), is_sending cpus message from about b (named_on b cpus message from) is_sent overlooked ws);
+  every = λ s may. let wished = chooses.every s may in (wished.0, subst (λ r. IsSending message from about b r (run (send cpus message from about) b (wished.0 ∷ []))) wished.1 (is_sending cpus message from about b (named_on b cpus message from) is_sent overlooked (wished.0 ∷ [])));
 }
   where
     chooses : ChoosesExactly message.mode (named_on b cpus message from)

@@ -1,6 +1,7 @@
 -- What holds of every sending: the sets of processors that are reached under all wishes are those that may be reached.
-use Rattle.std.specs.Prelude.{◌≡◌, ℕ, ◌<◌, true, false, List, [], ◌∷◌, length}
+use Rattle.std.specs.Prelude.{◌≡◌, ℕ, ◌<◌, Bool, true, false, not, ◌&&◌, List, [], ◌∷◌, length}
 use Rattle.std.specs.declared.option.Option.{Option}
+use Rattle.std.specs.FinSet as set
 use Rattle.irq_bits.specs.Members.{Numbers}
 use Rattle.irq_base.specs.declared.message.Message.{Message}
 use Rattle.irq_base.specs.declared.message.Mode.{Mode}
@@ -8,12 +9,12 @@ use Rattle.irq_base.specs.declared.shape.Part.TheVariants.{Lapic}
 use Rattle.lapic.specs.declared.outcome.Shorthand.{Shorthand}
 use Rattle.lapic.specs.Messages.{is_taken}
 use Rattle.board_model.specs.Board.{Board, part_of}
-use Rattle.board_model.specs.Statuses.{Sent}
-use Rattle.board_model.specs.Plan.{About}
-use Rattle.board_model.specs.Run.{Wishes, Sending, run}
+use Rattle.board_model.specs.Statuses.{Sent, TargetAnswer, message_answer}
+use Rattle.board_model.specs.Plan.{About, events_of, answers_of}
+use Rattle.board_model.specs.Run.{Wishes, Outcome, run}
 use Rattle.board_model.specs.Following.{reached}
 use Rattle.board_raise.specs.Named.{Processor, named_by, chosen_of, numbers_of, MayReach}
-use Rattle.board_raise.specs.Send.{numbers_below, is_illegal, send}
+use Rattle.board_raise.specs.Send.{numbers_below, has_request, is_illegal, send}
 
 -- ---- of the choice alone
 
@@ -47,17 +48,27 @@ pub record IsSent (message : Message) (named : List Processor) : Type 0 where
   pub someone : 0 < length named
   pub legal : is_illegal message ≡ false
 
--- these messages are one, and it reached that set of processors
-pub record IsOneSending (message : Message) (from : Option (ℕ × Shorthand)) (s : Numbers) (sendings : List Sending) : Type 0 where
+-- whether the request of a message is there already at a processor of a board
+abbrev pub has_request_on : Board → Message → ℕ → Bool
+has_request_on b message n = has_request message (record { number = n; apic = part_of b (Lapic n) })
+
+-- a message was sent once, and it reached the processors of that set: those of them where its request stood before and those
+-- where it is new show in the event or in the reply, and they decide what the message answers
+pub record IsSending (message : Message) (from : Option (ℕ × Shorthand)) (about : About) (b : Board) (s : Numbers) (o : Outcome TargetAnswer) : Type 0 where
   pub sent : Sent
-  pub one : sendings ≡ record { heading = record { message = message; from = from }; sent = sent } ∷ []
+  pub once : o.log.sendings ≡ record { heading = record { message = message; from = from }; sent = sent } ∷ []
   pub reaches : reached sent ≡ s
+  pub stood : (n : ℕ) → set.contains sent.stood n ≡ (set.contains s n && has_request_on b message n)
+  pub new : (n : ℕ) → set.contains sent.new n ≡ (set.contains s n && not (has_request_on b message n))
+  pub events : o.log.events ≡ events_of about sent
+  pub answers : o.log.answers ≡ answers_of about sent
+  pub value : o.value ≡ message_answer sent
 
 -- the message is sent once, under each wish to a set that may be reached, and to each set that may be reached under some
 -- wish
 pub record ReachesExactly (cpus : ℕ) (message : Message) (from : Option (ℕ × Shorthand)) (about : About) (b : Board) : Type 0 where
-  pub only : (ws : Wishes) → (s : Numbers) × MayReach message.mode (named_on b cpus message from) s × IsOneSending message from s (run (send cpus message from about) b ws).log.sendings
-  pub every : (s : Numbers) → MayReach message.mode (named_on b cpus message from) s → (wish : Numbers) × IsOneSending message from s (run (send cpus message from about) b (wish ∷ [])).log.sendings
+  pub only : (ws : Wishes) → (s : Numbers) × MayReach message.mode (named_on b cpus message from) s × IsSending message from about b s (run (send cpus message from about) b ws)
+  pub every : (s : Numbers) → MayReach message.mode (named_on b cpus message from) s → (wish : Numbers) × IsSending message from about b s (run (send cpus message from about) b (wish ∷ []))
 
 -- so it is of each message that comes to be sent
 abbrev pub WishesReachExactly : Type 0

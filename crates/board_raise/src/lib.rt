@@ -6,7 +6,7 @@
 
 ghost use Rattle.board_raise.specs.Laws.{WishesChooseExactly, WishesReachExactly};
 ghost use Rattle.board_raise.specs.PinLaws.{PicPinsFollowHolds, IoapicPinsFollowHolds};
-ghost use Rattle.board_raise.specs.ReachLaws.{SendsReachTheSame};
+ghost use Rattle.board_raise.specs.ReachLaws.{SendsReachTheSame, SignalsReachTheSame};
 
 /// A law: of some named processors the sets that are chosen under all wishes are those that may be reached.
 #[tactic(auto, using(crate::proofs::Choice::wishes_choose_exactly))]
@@ -35,4 +35,10 @@ pub fn ioapic_pins_follow_holds()
 /// A law: a sending looks at and writes the local APICs that its message tells, the same under all wishes.
 pub fn sends_reach_the_same()
     ensures { SendsReachTheSame }
+{}
+
+/// A law: a signal that is raised, lowered or injected looks at and writes the chips on which its GSI has a pin, and where it
+/// is raised the local APICs of the message that is sent, the same under all wishes.
+pub fn signals_reach_the_same()
+    ensures { SignalsReachTheSame }
 {}
