@@ -1,6 +1,4 @@
 //! Sources of pins and the routing table: refusals of rows, the table at power-on, replaced rows, and published words.
-ghost use Rattle.std.specs.Prelude.{◌≡◌, ◌<◌};
-
 use irq_base::{Items, MsiWord, NoMemory, Pin, Refusal, Row, Rows, Source, Targets};
 use route_table::{Table, decode, encode};
 use source_levels::Levels;
