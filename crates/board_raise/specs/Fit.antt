@@ -6,7 +6,10 @@ use Rattle.irq_base.specs.declared.shape.Part.TheVariants.{Lapic}
 use Rattle.pic_8259a.specs.declared.pair.Pair.{Pair}
 use Rattle.ioapic_82093aa.specs.declared.ioapic.Ioapic.{Ioapic}
 use Rattle.source_levels.specs.Holds.{Holds}
-use Rattle.board_model.specs.Registry.{Irqfd, Watch, IoEvent, RegistryPart}
+use Rattle.irqfd_set.specs.declared.irqfds.Irqfd.{Irqfd}
+use Rattle.ack_notifiers.specs.declared.watches.Watch.{Watch}
+use Rattle.ioevent_set.specs.declared.row.IoRow.{IoRow}
+use Rattle.board_model.specs.Registry.{RegistryPart}
 use Rattle.board_model.specs.Chips.{master_high, slave_high, ioapic_high}
 use Rattle.board_model.specs.Hand.{Parts, part_in}
 
@@ -36,7 +39,7 @@ pub record WatchFits (counters : ℕ) (w : Watch) : Type 0 where
 pub record RegistrationsFit (counters : ℕ) (r : RegistryPart) : Type 0 where
   pub irqfds : All (IrqfdFits counters) r.irqfds
   pub watches : All (WatchFits counters) r.watches
-  pub ioevents : All (λ (e : IoEvent). e.counter < counters) r.ioevents
+  pub ioevents : All (λ (e : IoRow). e.counter < counters) r.ioevents
 
 -- a pin of the pair is high exactly where some source holds it
 pub record PairFits (pair : Pair) (holds : Holds) : Type 0 where
