@@ -1,7 +1,8 @@
 -- A sending reaches exactly the sets that may be reached.
-use Rattle.std.proofs.Common.{◌≡◌, ℕ, zero, suc, ◌<◌, Bool, true, false, cond, not, ◌&&◌, ◌||◌, nat_eq, nat_lt, if◌then◌else◌, filter, List, [], ◌∷◌, ◌++◌, refl, sym, ap, ◌∙◌, subst, append-nil, arith, Some, None}
+use Rattle.std.proofs.Common.{◌≡◌, ℕ, zero, suc, ◌<◌, ◌≤◌, Bool, true, false, cond, not, ◌&&◌, ◌||◌, nat_eq, nat_lt, if◌then◌else◌, filter, List, [], ◌∷◌, ◌++◌, length, slice_get, slice_set, unwrap_or, refl, sym, ap, ◌∙◌, subst, append-nil, true≢false, arith, Some, None}
 use Rattle.std.specs.declared.option.Option.{Option}
 use Rattle.std.specs.FinSet as set
+use Rattle.std.specs.List.{list_any}
 use Rattle.std.specs.FinSet.{contains-empty, contains-union, same_set, nat_cmp-IsAntisymmetric}
 use Rattle.std.specs.Ordering.{nat_cmp}
 use Rattle.std.specs.Cmp.{nat_cmp_total}
@@ -21,10 +22,12 @@ use Rattle.board_model.specs.Statuses.{TargetAnswer, message_answer}
 use Rattle.board_model.specs.Plan.{About, events_of, answers_of, Plan, done, put, ◌>>=◌, ◌>>◌}
 use Rattle.board_model.specs.Run.{Wishes, Outcome, silence, next_wish, later_wishes, run, then_run}
 use Rattle.board_model.specs.Following.{reached}
+use Rattle.board_model.proofs.Lens.{part_of-with_other, lapics-with}
 use Rattle.board_model.proofs.Sequence.{run-bind}
+use Rattle.lapic.specs.Registers.{power_on}
 use Rattle.board_raise.specs.Named.{Processor, first_or, does_hear, is_named, named_by, chosen_of, numbers_of}
 use Rattle.board_raise.specs.Send.{ignore, numbers_below, only, reached_by, see_each, has_request, parted, accept_each, deliver, refuse_vector, send_to, send}
-use Rattle.board_raise.specs.Laws.{processors_on, named_on, IsNumbered, IsSent, IsSending, ChoosesExactly, WishesReachExactly}
+use Rattle.board_raise.specs.Laws.{processors_on, named_on, HasProcessors, IsSent, IsSending, ChoosesExactly, WishesReachExactly}
 use Rattle.board_raise.proofs.Choice.{wishes_choose_exactly}
 
 -- ---- the processors that are looked at
@@ -111,7 +114,7 @@ matched logical matches hears d n physical single h = grind (physical, single, h
 is_number : (n sender : ℕ) (hears : Bool) → (nat_eq n sender && hears) ≡ true → n ≡ sender
 is_number n sender hears h = grind (h, arith)
 
-module _ (b : Board) (cpus : ℕ) (message : Message) (numbered : IsNumbered b cpus) where
+module _ (b : Board) (cpus : ℕ) (message : Message) (numbered : HasProcessors b cpus) where
   -- whatever the destination is, where the named ones are those that match
   by_destination : (p : Processor → Bool) → ((q : Processor) → p q ≡ (does_match (dest_view q.apic) message && does_hear message.mode q.apic))
       → filter p (processors_on b (if message.logical then numbers_below cpus else if nat_eq message.dest broadcast then numbers_below cpus else only message.dest cpus)) ≡ filter p (processors_on b (numbers_below cpus))
@@ -120,7 +123,7 @@ module _ (b : Board) (cpus : ℕ) (message : Message) (numbered : IsNumbered b c
     | false ↦ λ physical. elim (nat_eq message.dest broadcast) as (λ t. nat_eq message.dest broadcast ≡ t → filter p (processors_on b (if t then numbers_below cpus else only message.dest cpus)) ≡ filter p (processors_on b (numbers_below cpus))) [
       | true ↦ λ _. refl
       | false ↦ λ single. one_enough b p message.dest cpus (λ n below passes.
-          sym (numbered n below)
+          sym (numbered.numbers n below)
           ∙ matched message.logical _ (does_hear message.mode (part_of b (Lapic n))) message.dest (part_of b (Lapic n)).number physical single
           (sym (is (record { number = n; apic = part_of b (Lapic n) })) ∙ passes))
     ] refl
@@ -179,42 +182,80 @@ module _ (message : Message) where
 
   -- ---- where the request was there before
 
-  -- each of these is as the board has it
-  AreOn : Board → List Processor → Type 0
-  AreOn b [] = Unit {0}
-  AreOn b (p ∷ ps) = (p.apic ≡ part_of b (Lapic p.number)) × AreOn b ps
+  -- P holds of each of these
+  Each : (Processor → Type 0) → List Processor → Type 0
+  Each P [] = Unit {0}
+  Each P (p ∷ ps) = P p × Each P ps
+
+  module _ (P : Processor → Type 0) where
+    each_of_some : (t : Processor → Bool) (ps : List Processor) → Each P ps → Each P (filter t ps)
+    unfolding Each
+    each_of_some t [] h = tt
+    each_of_some t (p ∷ ps) h = elim (t p) as (λ k. Each P (cond k (p ∷ filter t ps) (filter t ps))) [ true ↦ (h.0, each_of_some t ps h.1) | false ↦ each_of_some t ps h.1 ]
+
+    each_of_first : (ps qs : List Processor) → Each P ps → Each P qs → Each P (first_or ps qs)
+    unfolding Each
+    each_of_first [] [] g h = tt
+    each_of_first [] (q ∷ qs) g h = (h.0, tt)
+    each_of_first (p ∷ ps) qs g h = (g.0, tt)
+
+    each_chosen : (mode : Mode) (wish : Numbers) (named : List Processor) → Each P named → Each P (chosen_of mode wish named)
+    each_chosen Lowest wish named h = each_of_first _ _ (each_of_some _ _ (each_of_some _ named h)) (each_of_some _ named h)
+    each_chosen Fixed wish named h = h
+    each_chosen Smi wish named h = h
+    each_chosen Nmi wish named h = h
+    each_chosen Init wish named h = h
+    each_chosen Startup wish named h = h
+    each_chosen ExtInt wish named h = h
+    each_chosen Reserved wish named h = h
+
+  -- the processor is as the board has it
+  abbrev IsOn : Board → Processor → Type 0
+  IsOn b p = p.apic ≡ part_of b (Lapic p.number)
+
+  -- the number is among these
+  abbrev is_in : ℕ → List ℕ → Bool
+  is_in k ns = list_any (λ n. nat_eq n k) ns
+
+  abbrev IsIn : List ℕ → Processor → Type 0
+  IsIn ns p = is_in p.number ns ≡ true
+
+  or_later : (a b : Bool) → b ≡ true → (a || b) ≡ true
+  or_later true b h = refl
+  or_later false b h = h
+
+  each_within_more : (n : ℕ) (ns : List ℕ) (ps : List Processor) → Each (IsIn ns) ps → Each (IsIn (n ∷ ns)) ps
+  unfolding Each
+  each_within_more n ns [] h = tt
+  each_within_more n ns (p ∷ ps) h = (or_later _ _ h.0, each_within_more n ns ps h.1)
+
+  member_in : (ns : List ℕ) (ps : List Processor) → Each (IsIn ns) ps → (k : ℕ) → set.contains (numbers_of ps) k ≡ true → is_in k ns ≡ true
+  unfolding Each
+  member_in ns [] h k c = absurd (true≢false (sym c ∙ contains-empty nat_cmp k))
+  member_in ns (p ∷ ps) h k c = from (nat_eq k p.number) refl (sym (contains-insert_number (numbers_of ps) p.number k) ∙ c) (member_in ns ps h.1 k)
+    where
+      from : (t : Bool) → nat_eq k p.number ≡ t → (t || set.contains (numbers_of ps) k) ≡ true → (set.contains (numbers_of ps) k ≡ true → is_in k ns ≡ true) → is_in k ns ≡ true
+      from true same _ _ = let e : k ≡ p.number = grind (same, arith) in ap (λ m. is_in m ns) e ∙ h.0
+      from false _ later f = f later
 
   module _ (b : Board) where
-    some_are_on : (t : Processor → Bool) (ps : List Processor) → AreOn b ps → AreOn b (filter t ps)
-    unfolding AreOn
-    some_are_on t [] h = tt
-    some_are_on t (p ∷ ps) h = elim (t p) as (λ k. AreOn b (cond k (p ∷ filter t ps) (filter t ps))) [ true ↦ (h.0, some_are_on t ps h.1) | false ↦ some_are_on t ps h.1 ]
-
-    seen_are_on : (ns : List ℕ) → AreOn b (processors_on b ns)
-    unfolding AreOn
+    seen_are_on : (ns : List ℕ) → Each (IsOn b) (processors_on b ns)
+    unfolding Each
     seen_are_on [] = tt
     seen_are_on (n ∷ ns) = (refl, seen_are_on ns)
 
-    first_is_on : (ps qs : List Processor) → AreOn b ps → AreOn b qs → AreOn b (first_or ps qs)
-    unfolding AreOn
-    first_is_on [] [] g h = tt
-    first_is_on [] (q ∷ qs) g h = (h.0, tt)
-    first_is_on (p ∷ ps) qs g h = (g.0, tt)
-
-    chosen_are_on : (mode : Mode) (wish : Numbers) (named : List Processor) → AreOn b named → AreOn b (chosen_of mode wish named)
-    chosen_are_on Lowest wish named h = first_is_on _ _ (some_are_on _ _ (some_are_on _ named h)) (some_are_on _ named h)
-    chosen_are_on Fixed wish named h = h
-    chosen_are_on Smi wish named h = h
-    chosen_are_on Nmi wish named h = h
-    chosen_are_on Init wish named h = h
-    chosen_are_on Startup wish named h = h
-    chosen_are_on ExtInt wish named h = h
-    chosen_are_on Reserved wish named h = h
+    seen_are_in : (ns : List ℕ) → Each (IsIn ns) (processors_on b ns)
+    unfolding Each
+    seen_are_in [] = tt
+    seen_are_in (n ∷ ns) = (itself n ns, each_within_more n ns (processors_on b ns) (seen_are_in ns))
+      where
+        itself : (n : ℕ) (ns : List ℕ) → (nat_eq n n || is_in n ns) ≡ true
+        itself n ns = let same : nat_eq n n ≡ true = grind arith in ap (λ t. t || is_in n ns) same
 
     -- a test of processors that the board decides by the number
     module _ (t : Processor → Bool) where
-      those_passing : (ps : List Processor) → AreOn b ps → (n : ℕ) → set.contains (numbers_of (filter t ps)) n ≡ (set.contains (numbers_of ps) n && t (record { number = n; apic = part_of b (Lapic n) }))
-      unfolding AreOn
+      those_passing : (ps : List Processor) → Each (IsOn b) ps → (n : ℕ) → set.contains (numbers_of (filter t ps)) n ≡ (set.contains (numbers_of ps) n && t (record { number = n; apic = part_of b (Lapic n) }))
+      unfolding Each
       those_passing [] h n = contains-empty nat_cmp n ∙ ap (λ k. k && t (record { number = n; apic = part_of b (Lapic n) })) (sym (contains-empty nat_cmp n))
       those_passing (p ∷ ps) h n =
           elim (t p) as (λ k. t p ≡ k → set.contains (numbers_of (cond k (p ∷ filter t ps) (filter t ps))) n ≡ (set.contains (set.insert (numbers_of ps) p.number) n && t (record { number = n; apic = part_of b (Lapic n) }))) [
@@ -244,9 +285,131 @@ module _ (message : Message) where
               never false = refl
           one_fails false c k f = refl
 
+-- ---- the local APICs after it
+
+get_set : {X : Type 0} (xs : List X) (i : ℕ) (x d : X) → i < length xs → unwrap_or (slice_get (slice_set xs i x) i) d ≡ x
+get_set [] i x d h = absurd (omega (h, arith))
+get_set (y ∷ ys) zero x d h = refl
+get_set (y ∷ ys) (suc i) x d h = get_set ys i x d (omega (h, arith))
+
+-- no number stands twice
+Apart : List ℕ → Type 0
+Apart [] = Unit {0}
+Apart (n ∷ ns) = (list_any (λ m. nat_eq m n) ns ≡ false) × Apart ns
+
+neither : (a b : Bool) → (a || b) ≡ false → (a ≡ false) × (b ≡ false)
+neither false b h = (refl, h)
+neither true b h = absurd (true≢false h)
+
+module _ (message : Message) (takers : Numbers) (b : Board) where
+  module _ {A : Type 0} (a : A) where
+    untouched : (ns : List ℕ) (k : ℕ) → list_any (λ n. nat_eq n k) ns ≡ false → (c : Board) (ws : Wishes)
+        → part_of (run (accept_each message takers (processors_on b ns) >> done a) c ws).board (Lapic k) ≡ part_of c (Lapic k)
+    untouched [] k h c ws = refl
+    untouched (n ∷ ns) k h c ws =
+        let not_here = neither (nat_eq n k) (list_any (λ m. nat_eq m k) ns) h in
+        elim (set.contains takers n) as (λ t. part_of (run ((if t then put (Lapic n) (accepted (part_of b (Lapic n)) message) (accept_each message takers (processors_on b ns)) else accept_each message takers (processors_on b ns)) >> done a) c ws).board (Lapic k) ≡ part_of c (Lapic k)) [
+          | true ↦ untouched ns k not_here.1 (with_part c (Lapic n) (accepted (part_of b (Lapic n)) message)) ws ∙ part_of-with_other c (Lapic n) (Lapic k) (accepted (part_of b (Lapic n)) message) not_here.0
+          | false ↦ untouched ns k not_here.1 c ws
+        ]
+
+    taken_first : (n : ℕ) (ns : List ℕ) → list_any (λ m. nat_eq m n) ns ≡ false → (c : Board) (ws : Wishes) → part_of c (Lapic n) ≡ part_of b (Lapic n) → n < length c.lapics
+        → part_of (run (accept_each message takers (processors_on b (n ∷ ns)) >> done a) c ws).board (Lapic n) ≡ (if set.contains takers n then accepted (part_of b (Lapic n)) message else part_of b (Lapic n))
+    taken_first n ns apart c ws same there =
+        elim (set.contains takers n) as (λ t. part_of (run ((if t then put (Lapic n) (accepted (part_of b (Lapic n)) message) (accept_each message takers (processors_on b ns)) else accept_each message takers (processors_on b ns)) >> done a) c ws).board (Lapic n) ≡ (if t then accepted (part_of b (Lapic n)) message else part_of b (Lapic n))) [
+          | true ↦ untouched ns n apart (with_part c (Lapic n) (accepted (part_of b (Lapic n)) message)) ws ∙ get_set c.lapics n (accepted (part_of b (Lapic n)) message) (power_on n) there
+          | false ↦ untouched ns n apart c ws ∙ same
+        ]
+
+    taken : (ns : List ℕ) → Apart ns → (k : ℕ) → list_any (λ n. nat_eq n k) ns ≡ true → (c : Board) (ws : Wishes) → part_of c (Lapic k) ≡ part_of b (Lapic k) → k < length c.lapics
+        → part_of (run (accept_each message takers (processors_on b ns) >> done a) c ws).board (Lapic k) ≡ (if set.contains takers k then accepted (part_of b (Lapic k)) message else part_of b (Lapic k))
+    unfolding Apart
+    taken [] apart k h c ws same there = absurd (true≢false (sym h))
+    taken (n ∷ ns) apart k h c ws same there =
+        elim (nat_eq n k) as (λ t. nat_eq n k ≡ t → (t || list_any (λ m. nat_eq m k) ns) ≡ true → part_of (run (accept_each message takers (processors_on b (n ∷ ns)) >> done a) c ws).board (Lapic k) ≡ (if set.contains takers k then accepted (part_of b (Lapic k)) message else part_of b (Lapic k))) [
+          | true ↦ λ is _.
+              let e : n ≡ k = grind (is, arith) in
+              subst (λ j. part_of c (Lapic j) ≡ part_of b (Lapic j) → j < length c.lapics → part_of (run (accept_each message takers (processors_on b (n ∷ ns)) >> done a) c ws).board (Lapic j) ≡ (if set.contains takers j then accepted (part_of b (Lapic j)) message else part_of b (Lapic j)))
+              e (taken_first n ns apart.0 c ws) same there
+          | false ↦ λ other later.
+              elim (set.contains takers n) as (λ t. part_of (run ((if t then put (Lapic n) (accepted (part_of b (Lapic n)) message) (accept_each message takers (processors_on b ns)) else accept_each message takers (processors_on b ns)) >> done a) c ws).board (Lapic k) ≡ (if set.contains takers k then accepted (part_of b (Lapic k)) message else part_of b (Lapic k))) [
+                | true ↦ taken ns apart.1 k later (with_part c (Lapic n) (accepted (part_of b (Lapic n)) message)) ws
+                    (part_of-with_other c (Lapic n) (Lapic k) (accepted (part_of b (Lapic n)) message) other ∙ same)
+                    (subst (λ l. k < l) (sym (lapics-with c (Lapic n) (accepted (part_of b (Lapic n)) message))) there)
+                | false ↦ taken ns apart.1 k later c ws same there
+              ]
+        ] refl h
+
+-- the processors that are looked at: no number stands twice, and each is of the board
+apart_push : (ns : List ℕ) (c : ℕ) → Apart ns → list_any (λ n. nat_eq n c) ns ≡ false → Apart (ns ++ c ∷ [])
+unfolding Apart
+apart_push [] c apart new = (refl, tt)
+apart_push (n ∷ ns) c apart new =
+    let here = neither (nat_eq n c) (list_any (λ m. nat_eq m c) ns) new in
+    (any_push ns here.0 apart.0, apart_push ns c apart.1 here.1)
+  where
+    any_push : (ms : List ℕ) → nat_eq n c ≡ false → list_any (λ m. nat_eq m n) ms ≡ false → list_any (λ m. nat_eq m n) (ms ++ c ∷ []) ≡ false
+    any_push [] other h = let flipped : nat_eq c n ≡ false = grind (other, arith) in ap (λ t. t || false) flipped
+    any_push (m ∷ ms) other h = let each = neither (nat_eq m n) (list_any (λ m. nat_eq m n) ms) h in ap (λ t. t || list_any (λ m. nat_eq m n) (ms ++ c ∷ [])) each.0 ∙ any_push ms other each.1
+
+any_append : (k : ℕ) (ns ms : List ℕ) → list_any (λ n. nat_eq n k) (ns ++ ms) ≡ (list_any (λ n. nat_eq n k) ns || list_any (λ n. nat_eq n k) ms)
+any_append k [] ms = refl
+any_append k (n ∷ ns) ms = ap (λ t. nat_eq n k || t) (any_append k ns ms) ∙ moved (nat_eq n k) _ _
+  where
+    moved : (a b c : Bool) → (a || (b || c)) ≡ ((a || b) || c)
+    moved true b c = refl
+    moved false b c = refl
+
+below_is : (k cpus : ℕ) → list_any (λ n. nat_eq n k) (numbers_below cpus) ≡ true → k < cpus
+below_is k zero h = absurd (true≢false (sym h))
+below_is k (suc c) h = from (list_any (λ n. nat_eq n k) (numbers_below c)) (nat_eq c k) (below_is k c) refl (sym (any_append k (numbers_below c) (c ∷ [])) ∙ h)
+  where
+    from : (a e : Bool) → (a ≡ true → k < c) → nat_eq c k ≡ e → (a || (e || false)) ≡ true → k < suc c
+    from true e f is _ = let less : k < c = f refl in omega (less, arith)
+    from false true f is _ = let same : c ≡ k = grind (is, arith) in omega (same, arith)
+    from false false f is h = absurd (true≢false (sym h))
+
+below_apart : (cpus : ℕ) → Apart (numbers_below cpus)
+unfolding Apart
+below_apart zero = tt
+below_apart (suc c) = apart_push (numbers_below c) c (below_apart c) (from (list_any (λ n. nat_eq n c) (numbers_below c)) refl)
+  where
+    from : (t : Bool) → list_any (λ n. nat_eq n c) (numbers_below c) ≡ t → t ≡ false
+    from true is = let less : c < c = below_is c c is in absurd (omega (less, arith))
+    from false is = refl
+
+module _ (message : Message) (cpus : ℕ) (P : List ℕ → Type 0) (every : P (numbers_below cpus)) (alone : (d : ℕ) → P (only d cpus)) where
+  by_dest : P (reached_by message None cpus)
+  by_dest = elim message.logical as (λ l. P (if l then numbers_below cpus else if nat_eq message.dest broadcast then numbers_below cpus else only message.dest cpus)) [
+    | true ↦ every
+    | false ↦ elim (nat_eq message.dest broadcast) as (λ t. P (if t then numbers_below cpus else only message.dest cpus)) [ true ↦ every | false ↦ alone message.dest ]
+  ]
+
+  -- what holds of all processors and of each alone, holds of those that are looked at
+  of_reached : (from : Option (ℕ × Shorthand)) → P (reached_by message from cpus)
+  of_reached None = by_dest
+  of_reached (Some (sender, Field)) = by_dest
+  of_reached (Some (sender, OwnOnly)) = alone sender
+  of_reached (Some (sender, All)) = every
+  of_reached (Some (sender, Others)) = every
+
+only_apart : (cpus d : ℕ) → Apart (only d cpus)
+unfolding Apart
+only_apart cpus d = elim (nat_lt d cpus) as (λ t. Apart (if t then d ∷ [] else [])) [ true ↦ (refl, tt) | false ↦ tt ]
+
+only_below_is : (cpus d k : ℕ) → list_any (λ n. nat_eq n k) (only d cpus) ≡ true → k < cpus
+only_below_is cpus d k = elim (nat_lt d cpus) as (λ t. nat_lt d cpus ≡ t → list_any (λ n. nat_eq n k) (if t then d ∷ [] else []) ≡ true → k < cpus) [
+  | true ↦ λ below h. one (nat_eq d k) refl below h
+  | false ↦ λ _ h. absurd (true≢false (sym h))
+] refl
+  where
+    one : (e : Bool) → nat_eq d k ≡ e → nat_lt d cpus ≡ true → (e || false) ≡ true → k < cpus
+    one true is below _ = let same : d ≡ k = grind (is, arith) in let less : d < cpus = grind (below, arith) in omega (same, less, arith)
+    one false is below h = absurd (true≢false (sym h))
+
 -- ---- exactly
 
-module _ (cpus : ℕ) (message : Message) (from : Option (ℕ × Shorthand)) (about : About) (b : Board) where
+module _ (cpus : ℕ) (message : Message) (from : Option (ℕ × Shorthand)) (about : About) (b : Board) (places : cpus ≤ length b.lapics) where
   abbrev f : List Processor → Plan TargetAnswer
   f processors = send_to message from about processors (named_by message from processors)
 
@@ -271,22 +434,50 @@ module _ (cpus : ℕ) (message : Message) (from : Option (ℕ × Shorthand)) (ab
     new = those_passing message b (λ p. not (has_request message p)) (chosen_of message.mode (next_wish ws) named) on;
     events = ap (λ o. o.log.events) delivered ∙ ap (λ l. events_of about (parted message (chosen_of message.mode (next_wish ws) named)) ++ l.events) quiet ∙ append-nil _;
     answers = ap (λ o. o.log.answers) delivered ∙ ap (λ l. answers_of about (parted message (chosen_of message.mode (next_wish ws) named)) ++ l.answers) quiet ∙ append-nil _;
+    after = λ k. ap (λ o. part_of o.board (Lapic k)) delivered ∙ by_place k ∙ ap (λ s. if set.contains s k then accepted (part_of b (Lapic k)) message else part_of b (Lapic k)) (all_reached message (chosen_of message.mode (next_wish ws) named));
     value = ap (λ o. o.value) delivered ∙ ends_with message _ _ (processors_on b (reached_by message from cpus)) b (later_wishes ws);
   }
     where
       delivered : run (send cpus message from about) b ws ≡ run (deliver message from about (processors_on b (reached_by message from cpus)) named) b ws
       delivered = is_delivered named is_sent is ws
 
-      on : AreOn message b (chosen_of message.mode (next_wish ws) named)
-      on = chosen_are_on message b message.mode (next_wish ws) named (subst (AreOn message b) is (some_are_on message b (is_named message from) (processors_on b (reached_by message from cpus)) (seen_are_on message b (reached_by message from cpus))))
+      on : Each message (IsOn message b) (chosen_of message.mode (next_wish ws) named)
+      on = each_chosen message (IsOn message b) message.mode (next_wish ws) named
+          (subst (Each message (IsOn message b)) is (each_of_some message (IsOn message b) (is_named message from) (processors_on b (reached_by message from cpus)) (seen_are_on message b (reached_by message from cpus))))
+
+      within : (k : ℕ) → set.contains (reached (parted message (chosen_of message.mode (next_wish ws) named))) k ≡ true → list_any (λ n. nat_eq n k) (reached_by message from cpus) ≡ true
+      within k h = member_in message (reached_by message from cpus) (chosen_of message.mode (next_wish ws) named)
+          (each_chosen message (IsIn message (reached_by message from cpus)) message.mode (next_wish ws) named
+          (subst (Each message (IsIn message (reached_by message from cpus))) is (each_of_some message (IsIn message (reached_by message from cpus)) (is_named message from) (processors_on b (reached_by message from cpus)) (seen_are_in message b (reached_by message from cpus)))))
+          k (ap (λ s. set.contains s k) (sym (all_reached message (chosen_of message.mode (next_wish ws) named))) ∙ h)
+
+      by_place : (k : ℕ)
+          → part_of (run (accept_each message (reached (parted message (chosen_of message.mode (next_wish ws) named))) (processors_on b (reached_by message from cpus)) >> done (message_answer (parted message (chosen_of message.mode (next_wish ws) named)))) b (later_wishes ws)).board (Lapic k)
+          ≡ (if set.contains (reached (parted message (chosen_of message.mode (next_wish ws) named))) k then accepted (part_of b (Lapic k)) message else part_of b (Lapic k))
+      by_place k = at (list_any (λ n. nat_eq n k) (reached_by message from cpus)) refl
+        where
+          at : (t : Bool) → list_any (λ n. nat_eq n k) (reached_by message from cpus) ≡ t
+              → part_of (run (accept_each message (reached (parted message (chosen_of message.mode (next_wish ws) named))) (processors_on b (reached_by message from cpus)) >> done (message_answer (parted message (chosen_of message.mode (next_wish ws) named)))) b (later_wishes ws)).board (Lapic k)
+              ≡ (if set.contains (reached (parted message (chosen_of message.mode (next_wish ws) named))) k then accepted (part_of b (Lapic k)) message else part_of b (Lapic k))
+          at true is_there =
+              let below : k < cpus = of_reached message cpus (λ ns. list_any (λ n. nat_eq n k) ns ≡ true → k < cpus) (below_is k cpus) (λ d. only_below_is cpus d k) from is_there in
+              taken message (reached (parted message (chosen_of message.mode (next_wish ws) named))) b _ (reached_by message from cpus)
+              (of_reached message cpus Apart (below_apart cpus) (only_apart cpus) from) k is_there b (later_wishes ws) refl (omega (below, places, arith))
+          at false elsewhere =
+              untouched message (reached (parted message (chosen_of message.mode (next_wish ws) named))) b _ (reached_by message from cpus) k elsewhere b (later_wishes ws)
+              ∙ sym (ap (λ t. if t then accepted (part_of b (Lapic k)) message else part_of b (Lapic k)) (not_taken _ refl))
+            where
+              not_taken : (t : Bool) → set.contains (reached (parted message (chosen_of message.mode (next_wish ws) named))) k ≡ t → set.contains (reached (parted message (chosen_of message.mode (next_wish ws) named))) k ≡ false
+              not_taken true h = absurd (true≢false (sym (within k h) ∙ elsewhere))
+              not_taken false h = h
 
       quiet : (run (accept_each message (reached (parted message (chosen_of message.mode (next_wish ws) named))) (processors_on b (reached_by message from cpus)) >> done (message_answer (parted message (chosen_of message.mode (next_wish ws) named)))) b (later_wishes ws)).log ≡ silence
       quiet = shows_nothing message _ _ (processors_on b (reached_by message from cpus)) b (later_wishes ws)
 
 pub wishes_reach_exactly : WishesReachExactly
 wishes_reach_exactly cpus message from about b numbered is_sent = record {
-  only = λ ws. (numbers_of (chosen_of message.mode (next_wish ws) (named_on b cpus message from)), chooses.only (next_wish ws), is_sending cpus message from about b (named_on b cpus message from) is_sent overlooked ws);
-  every = λ s may. let wished = chooses.every s may in (wished.0, subst (λ r. IsSending message from about b r (run (send cpus message from about) b (wished.0 ∷ []))) wished.1 (is_sending cpus message from about b (named_on b cpus message from) is_sent overlooked (wished.0 ∷ [])));
+  only = λ ws. (numbers_of (chosen_of message.mode (next_wish ws) (named_on b cpus message from)), chooses.only (next_wish ws), is_sending cpus message from about b numbered.places (named_on b cpus message from) is_sent overlooked ws);
+  every = λ s may. let wished = chooses.every s may in (wished.0, subst (λ r. IsSending message from about b r (run (send cpus message from about) b (wished.0 ∷ []))) wished.1 (is_sending cpus message from about b numbered.places (named_on b cpus message from) is_sent overlooked (wished.0 ∷ [])));
 }
   where
     chooses : ChoosesExactly message.mode (named_on b cpus message from)

@@ -1,5 +1,5 @@
 -- What holds of every sending: the sets of processors that are reached under all wishes are those that may be reached.
-use Rattle.std.specs.Prelude.{◌≡◌, ℕ, ◌<◌, Bool, true, false, not, ◌&&◌, List, [], ◌∷◌, length}
+use Rattle.std.specs.Prelude.{◌≡◌, ℕ, ◌<◌, ◌≤◌, Bool, true, false, not, ◌&&◌, if◌then◌else◌, List, [], ◌∷◌, length}
 use Rattle.std.specs.declared.option.Option.{Option}
 use Rattle.std.specs.FinSet as set
 use Rattle.irq_bits.specs.Members.{Numbers}
@@ -7,7 +7,7 @@ use Rattle.irq_base.specs.declared.message.Message.{Message}
 use Rattle.irq_base.specs.declared.message.Mode.{Mode}
 use Rattle.irq_base.specs.declared.shape.Part.TheVariants.{Lapic}
 use Rattle.lapic.specs.declared.outcome.Shorthand.{Shorthand}
-use Rattle.lapic.specs.Messages.{is_taken}
+use Rattle.lapic.specs.Messages.{is_taken, accepted}
 use Rattle.board_model.specs.Board.{Board, part_of}
 use Rattle.board_model.specs.Statuses.{Sent, TargetAnswer, message_answer}
 use Rattle.board_model.specs.Plan.{About, events_of, answers_of}
@@ -38,9 +38,10 @@ processors_on b (n ∷ ns) = record { number = n; apic = part_of b (Lapic n) } �
 abbrev pub named_on : Board → ℕ → Message → Option (ℕ × Shorthand) → List Processor
 named_on b cpus message from = named_by message from (processors_on b (numbers_below cpus))
 
--- each local APIC has the number of its place
-abbrev pub IsNumbered : Board → ℕ → Type 0
-IsNumbered b cpus = (n : ℕ) → n < cpus → (part_of b (Lapic n)).number ≡ n
+-- a board has so many processors, and each local APIC has the number of its place
+pub record HasProcessors (b : Board) (cpus : ℕ) : Type 0 where
+  pub places : cpus ≤ length b.lapics
+  pub numbers : (n : ℕ) → n < cpus → (part_of b (Lapic n)).number ≡ n
 
 -- a message that comes to be sent: local APICs take its mode, it names some, and its vector is legal
 pub record IsSent (message : Message) (named : List Processor) : Type 0 where
@@ -53,7 +54,8 @@ abbrev pub has_request_on : Board → Message → ℕ → Bool
 has_request_on b message n = has_request message (record { number = n; apic = part_of b (Lapic n) })
 
 -- a message was sent once, and it reached the processors of that set: those of them where its request stood before and those
--- where it is new show in the event or in the reply, and they decide what the message answers
+-- where it is new show in the event or in the reply, and they decide what the message answers; each of them, and no other
+-- processor, accepts the message
 pub record IsSending (message : Message) (from : Option (ℕ × Shorthand)) (about : About) (b : Board) (s : Numbers) (o : Outcome TargetAnswer) : Type 0 where
   pub sent : Sent
   pub once : o.log.sendings ≡ record { heading = record { message = message; from = from }; sent = sent } ∷ []
@@ -63,6 +65,7 @@ pub record IsSending (message : Message) (from : Option (ℕ × Shorthand)) (abo
   pub events : o.log.events ≡ events_of about sent
   pub answers : o.log.answers ≡ answers_of about sent
   pub value : o.value ≡ message_answer sent
+  pub after : (n : ℕ) → part_of o.board (Lapic n) ≡ (if set.contains s n then accepted (part_of b (Lapic n)) message else part_of b (Lapic n))
 
 -- the message is sent once, under each wish to a set that may be reached, and to each set that may be reached under some
 -- wish
@@ -72,4 +75,4 @@ pub record ReachesExactly (cpus : ℕ) (message : Message) (from : Option (ℕ �
 
 -- so it is of each message that comes to be sent
 abbrev pub WishesReachExactly : Type 0
-WishesReachExactly = (cpus : ℕ) (message : Message) (from : Option (ℕ × Shorthand)) (about : About) (b : Board) → IsNumbered b cpus → IsSent message (named_on b cpus message from) → ReachesExactly cpus message from about b
+WishesReachExactly = (cpus : ℕ) (message : Message) (from : Option (ℕ × Shorthand)) (about : About) (b : Board) → HasProcessors b cpus → IsSent message (named_on b cpus message from) → ReachesExactly cpus message from about b
