@@ -3,3 +3,4 @@ pub mod Sending
 pub mod Pins
 pub mod Reaching
 pub mod SignalReach
+pub mod Illegal

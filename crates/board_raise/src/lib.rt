@@ -4,7 +4,7 @@
 //! raised, lowered or injected), `Laws`. The functions here have no body; the contract of each is a law.
 #![tactic(auto)]
 
-ghost use Rattle.board_raise.specs.Laws.{WishesChooseExactly, WishesReachExactly};
+ghost use Rattle.board_raise.specs.Laws.{WishesChooseExactly, WishesReachExactly, IllegalVectorIsRecorded};
 ghost use Rattle.board_raise.specs.PinLaws.{PicPinsFollowHolds, IoapicPinsFollowHolds};
 ghost use Rattle.board_raise.specs.ReachLaws.{SendsReachTheSame, SignalsReachTheSame};
 
@@ -41,4 +41,9 @@ pub fn sends_reach_the_same()
 /// is raised the local APICs of the message that is sent, the same under all wishes.
 pub fn signals_reach_the_same()
     ensures { SignalsReachTheSame }
+{}
+
+/// A law: a named processor that accepts a message with a vector below 16 records ESR bit 6, and nothing else of it changes.
+pub fn illegal_vector_is_recorded()
+    ensures { IllegalVectorIsRecorded }
 {}
