@@ -4,3 +4,4 @@ pub mod Pins
 pub mod Reaching
 pub mod SignalReach
 pub mod Illegal
+pub mod Steady
