@@ -3,3 +3,5 @@ pub mod Sending
 pub mod Pins
 pub mod Reaching
 pub mod SignalReach
+pub mod Illegal
+pub mod Steady

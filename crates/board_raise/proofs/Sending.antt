@@ -162,7 +162,7 @@ module _ (message : Message) where
       last_in true false c s h = refl
       last_in false a c s h = h
 
-  all_reached : (chosen : List Processor) → reached (parted message chosen) ≡ numbers_of chosen
+  pub all_reached : (chosen : List Processor) → reached (parted message chosen) ≡ numbers_of chosen
   all_reached chosen = same_set nat_cmp_total nat_cmp-IsAntisymmetric _ _ (λ q. contains-union nat_cmp_total _ _ q ∙ both_parts chosen q)
 
   -- to accept shows nothing, and goes on
@@ -293,11 +293,11 @@ get_set (y ∷ ys) zero x d h = refl
 get_set (y ∷ ys) (suc i) x d h = get_set ys i x d (omega (h, arith))
 
 -- no number stands twice
-Apart : List ℕ → Type 0
+unfoldable pub Apart : List ℕ → Type 0
 Apart [] = Unit {0}
 Apart (n ∷ ns) = (list_any (λ m. nat_eq m n) ns ≡ false) × Apart ns
 
-neither : (a b : Bool) → (a || b) ≡ false → (a ≡ false) × (b ≡ false)
+pub neither : (a b : Bool) → (a || b) ≡ false → (a ≡ false) × (b ≡ false)
 neither false b h = (refl, h)
 neither true b h = absurd (true≢false h)
 
@@ -369,7 +369,7 @@ below_is k (suc c) h = from (list_any (λ n. nat_eq n k) (numbers_below c)) (nat
     from false true f is _ = let same : c ≡ k = grind (is, arith) in omega (same, arith)
     from false false f is h = absurd (true≢false (sym h))
 
-below_apart : (cpus : ℕ) → Apart (numbers_below cpus)
+pub below_apart : (cpus : ℕ) → Apart (numbers_below cpus)
 unfolding Apart
 below_apart zero = tt
 below_apart (suc c) = apart_push (numbers_below c) c (below_apart c) (from (list_any (λ n. nat_eq n c) (numbers_below c)) refl)
@@ -386,14 +386,14 @@ module _ (message : Message) (cpus : ℕ) (P : List ℕ → Type 0) (every : P (
   ]
 
   -- what holds of all processors and of each alone, holds of those that are looked at
-  of_reached : (from : Option (ℕ × Shorthand)) → P (reached_by message from cpus)
+  pub of_reached : (from : Option (ℕ × Shorthand)) → P (reached_by message from cpus)
   of_reached None = by_dest
   of_reached (Some (sender, Field)) = by_dest
   of_reached (Some (sender, OwnOnly)) = alone sender
   of_reached (Some (sender, All)) = every
   of_reached (Some (sender, Others)) = every
 
-only_apart : (cpus d : ℕ) → Apart (only d cpus)
+pub only_apart : (cpus d : ℕ) → Apart (only d cpus)
 unfolding Apart
 only_apart cpus d = elim (nat_lt d cpus) as (λ t. Apart (if t then d ∷ [] else [])) [ true ↦ (refl, tt) | false ↦ tt ]
 

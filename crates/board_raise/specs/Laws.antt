@@ -7,13 +7,13 @@ use Rattle.irq_base.specs.declared.message.Message.{Message}
 use Rattle.irq_base.specs.declared.message.Mode.{Mode}
 use Rattle.irq_base.specs.declared.shape.Part.TheVariants.{Lapic}
 use Rattle.lapic.specs.declared.outcome.Shorthand.{Shorthand}
-use Rattle.lapic.specs.Messages.{is_taken, accepted}
+use Rattle.lapic.specs.Messages.{is_taken, accepted, with_error}
 use Rattle.board_model.specs.Board.{Board, part_of}
 use Rattle.board_model.specs.Statuses.{Sent, TargetAnswer, message_answer}
 use Rattle.board_model.specs.Plan.{About, events_of, answers_of}
 use Rattle.board_model.specs.Run.{Wishes, Outcome, run}
 use Rattle.board_model.specs.Following.{reached}
-use Rattle.board_raise.specs.Named.{Processor, named_by, chosen_of, numbers_of, MayReach}
+use Rattle.board_raise.specs.Named.{Processor, is_named, named_by, chosen_of, numbers_of, MayReach}
 use Rattle.board_raise.specs.Send.{numbers_below, has_request, is_illegal, send}
 
 -- ---- of the choice alone
@@ -76,3 +76,9 @@ pub record ReachesExactly (cpus : ℕ) (message : Message) (from : Option (ℕ �
 -- so it is of each message that comes to be sent
 abbrev pub WishesReachExactly : Type 0
 WishesReachExactly = (cpus : ℕ) (message : Message) (from : Option (ℕ × Shorthand)) (about : About) (b : Board) → HasProcessors b cpus → IsSent message (named_on b cpus message from) → ReachesExactly cpus message from about b
+
+-- ---- of an illegal vector
+
+-- a named processor that accepts a message with an illegal vector records ESR bit 6, and nothing else of it changes
+abbrev pub IllegalVectorIsRecorded : Type 0
+IllegalVectorIsRecorded = (message : Message) (from : Option (ℕ × Shorthand)) (p : Processor) → is_taken message.mode ≡ true → is_named message from p ≡ true → is_illegal message ≡ true → accepted p.apic message ≡ with_error p.apic 6

@@ -5,3 +5,4 @@ pub mod Fit
 pub mod Laws
 pub mod PinLaws
 pub mod ReachLaws
+pub mod Steady

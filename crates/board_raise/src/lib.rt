@@ -1,12 +1,14 @@
 //! Signals of a board: a message is sent, a GSI is raised, lowered or injected.
 //!
 //! Reading order of the definitions: `Named` (for which processors a message is), `Send` (its five steps), `Signal` (a GSI is
-//! raised, lowered or injected), `Laws`. The functions here have no body; the contract of each is a law.
+//! raised, lowered or injected), `Fit` (parts that can belong to one board), and then what holds of them: `Laws`, `Steady`,
+//! `PinLaws`, `ReachLaws`. The functions here have no body; the contract of each is a law.
 #![tactic(auto)]
 
-ghost use Rattle.board_raise.specs.Laws.{WishesChooseExactly, WishesReachExactly};
+ghost use Rattle.board_raise.specs.Laws.{WishesChooseExactly, WishesReachExactly, IllegalVectorIsRecorded};
 ghost use Rattle.board_raise.specs.PinLaws.{PicPinsFollowHolds, IoapicPinsFollowHolds};
 ghost use Rattle.board_raise.specs.ReachLaws.{SendsReachTheSame, SignalsReachTheSame};
+ghost use Rattle.board_raise.specs.Steady.{SendsSteadily};
 
 /// A law: of some named processors the sets that are chosen under all wishes are those that may be reached.
 #[tactic(auto, using(crate::proofs::Choice::wishes_choose_exactly))]
@@ -41,4 +43,14 @@ pub fn sends_reach_the_same()
 /// is raised the local APICs of the message that is sent, the same under all wishes.
 pub fn signals_reach_the_same()
     ensures { SignalsReachTheSame }
+{}
+
+/// A law: a named processor that accepts a message with a vector below 16 records ESR bit 6, and nothing else of it changes.
+pub fn illegal_vector_is_recorded()
+    ensures { IllegalVectorIsRecorded }
+{}
+
+/// A law: the choice of a sending can be followed: to wish for what it reached is to reach it again.
+pub fn sends_steadily()
+    ensures { SendsSteadily }
 {}
