@@ -10,10 +10,6 @@ mod messages;
 #[cfg(test)]
 mod pic;
 #[cfg(test)]
-mod registries;
-#[cfg(test)]
-mod routes;
-#[cfg(test)]
 mod tables;
 #[cfg(test)]
 mod types;
