@@ -8,3 +8,5 @@ pub mod Run
 pub mod Agreement
 pub mod Following
 pub mod Laws
+pub mod Routing
+pub mod Published

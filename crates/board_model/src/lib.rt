@@ -5,9 +5,13 @@
 //! `run` on a whole board (`specs/Board.antt`), `run_on` on the parts in hand (`specs/Hand.antt`), and `reaches`, the parts
 //! that it looks at or writes. What a choice reached shows at once, in an event or in the reply.
 //!
-//! Reading order of the definitions: `Registry`, `Chips`, `Board`, `Hand`, `Statuses`, `Plan`, `Run`, `Agreement`,
-//! `Following`, `Laws`. The functions here have no body; the contract of each is a law.
+//! Reading order of the definitions: `Registry`, `Routing`, `Published`, `Chips`, `Board`, `Hand`, `Statuses`, `Plan`, `Run`,
+//! `Agreement`, `Following`, `Laws`. The functions here have no body; the contract of each is a law.
 #![tactic(auto)]
+
+mod trigger;
+
+pub use trigger::TriggerWord;
 
 ghost use Rattle.board_model.specs.Laws.{UnreachedStays, FrameStays, AgreeingAlike, ShownDecides, ExactOnParts, LackingExactly, ShownFollowed, RunInSequence, RunOnInSequence, ReachesInSequence, StatusShowsSets, PinsFollowHolds};
 
