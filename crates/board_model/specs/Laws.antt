@@ -1,11 +1,14 @@
 -- What holds of every plan (A and B are the types of the values with which plans end), of statuses and of pins.
-use Rattle.std.specs.Prelude.{◌≡◌, ◌↔◌, false, ◌||◌}
+use Rattle.std.specs.Prelude.{◌≡◌, ◌↔◌, ℕ, false, ◌||◌, length}
 use Rattle.std.specs.declared.option.Option.{Option}
 use Rattle.irq_base.specs.declared.shape.Part.{Part}
 use Rattle.pic_8259a.specs.declared.pair.Pair.{Pair}
 use Rattle.ioapic_82093aa.specs.declared.ioapic.Ioapic.{Ioapic}
 use Rattle.board_model.specs.Board.{Board, part_of}
 use Rattle.board_model.specs.Hand.{Parts}
+use Rattle.board_model.specs.Registry.{RegistryPart}
+use Rattle.board_model.specs.Routing.{routing_of_registry}
+use Rattle.board_model.specs.Published.{published, routing_of_words, IsSoundRegistry}
 use Rattle.board_model.specs.Chips.{PicPart, IoapicPart, master_high, slave_high, pair_of, with_pair, ioapic_high, ioapic_of, with_ioapic}
 use Rattle.board_model.specs.Statuses.{Sent, TargetAnswer, status_sent, sets_of}
 use Rattle.board_model.specs.Plan.{Plan, ◌>>=◌}
@@ -63,3 +66,11 @@ pub record PinsFollowHolds : Type 0 where
   pub pair : (part : PicPart) (pair : Pair) → pair.master.high ≡ master_high part.holds → pair.slave.high ≡ slave_high part.holds → pair_of (with_pair part pair) ≡ pair
   pub ioapic : (part : IoapicPart) → with_ioapic part (ioapic_of part) ≡ part
   pub chip : (part : IoapicPart) (chip : Ioapic) → chip.high ≡ ioapic_high part.holds → ioapic_of (with_ioapic part chip) ≡ chip
+
+-- a sound registry publishes 4,392 words, and they tell its routing
+pub record PublishesRouting (registry : RegistryPart) (tick : ℕ) : Type 0 where
+  pub count : length (published registry tick) ≡ 4392
+  pub told : routing_of_words (published registry tick) ≡ routing_of_registry registry tick
+
+abbrev pub WordsTellTheRouting : Type 0
+WordsTellTheRouting = (registry : RegistryPart) (tick : ℕ) → IsSoundRegistry registry tick → PublishesRouting registry tick

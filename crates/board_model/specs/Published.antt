@@ -97,4 +97,4 @@ pub record IsSoundRegistry (registry : RegistryPart) (tick : ℕ) : Type 0 where
   pub table : IsSoundTable registry.table
   pub irqfds : All IsSoundIrqfd registry.irqfds
   pub watches : All (λ (row : Watch). row.gsi < 4096) registry.watches
-  pub tick : tick < 4096
+  pub ticks : tick < 4096

@@ -6,3 +6,4 @@ pub mod Laws
 pub mod PinLaws
 pub mod ReachLaws
 pub mod Steady
+pub mod OnRow
