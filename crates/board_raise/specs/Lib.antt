@@ -7,3 +7,5 @@ pub mod PinLaws
 pub mod ReachLaws
 pub mod Steady
 pub mod OnRow
+pub mod InHand
+pub mod Told
