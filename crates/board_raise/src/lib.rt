@@ -5,6 +5,12 @@
 //! `PinLaws`, `ReachLaws`. The functions here have no body; the contract of each is a law.
 #![tactic(auto)]
 
+mod lacks;
+mod row;
+
+pub use lacks::Lacks;
+pub use row::LapicRow;
+
 ghost use Rattle.board_raise.specs.Laws.{WishesChooseExactly, WishesReachExactly, IllegalVectorIsRecorded};
 ghost use Rattle.board_raise.specs.PinLaws.{PicPinsFollowHolds, IoapicPinsFollowHolds};
 ghost use Rattle.board_raise.specs.ReachLaws.{SendsReachTheSame, SignalsReachTheSame};
