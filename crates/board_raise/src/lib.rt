@@ -1,14 +1,20 @@
 //! Signals of a board: a message is sent, a GSI is raised, lowered or injected.
 //!
 //! Reading order of the definitions: `Named` (for which processors a message is), `Send` (its five steps), `Signal` (a GSI is
-//! raised, lowered or injected), `Fit` (parts that can belong to one board), and then what holds of them: `Laws`, `Steady`,
-//! `PinLaws`, `ReachLaws`. The functions here have no body; the contract of each is a law.
+//! raised, lowered or injected), `Fit` (parts that can belong to one board), `InHand` (the parts that the code has, as those
+//! of the model), `Told` (what the status of a sending tells), and then what holds of them: `Laws`, `Steady`, `PinLaws`,
+//! `ReachLaws`. The functions without a body are laws: the contract of each is what holds.
 #![tactic(auto)]
 
 mod lacks;
+mod parts;
+mod rig;
 mod row;
 
+pub use board_model::TriggerWord;
 pub use lacks::Lacks;
+pub use parts::{IoPart, Parts, PicPart, RegistryPart};
+pub use rig::Rig;
 pub use row::LapicRow;
 
 ghost use Rattle.board_raise.specs.Laws.{WishesChooseExactly, WishesReachExactly, IllegalVectorIsRecorded};
