@@ -7,3 +7,4 @@ pub mod PinLaws
 pub mod ReachLaws
 pub mod Steady
 pub mod OnRow
+pub mod Lending

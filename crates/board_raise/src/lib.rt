@@ -8,13 +8,13 @@
 mod lacks;
 mod row;
 
-pub use lacks::Lacks;
-pub use row::LapicRow;
-
 ghost use Rattle.board_raise.specs.Laws.{WishesChooseExactly, WishesReachExactly, IllegalVectorIsRecorded};
 ghost use Rattle.board_raise.specs.PinLaws.{PicPinsFollowHolds, IoapicPinsFollowHolds};
 ghost use Rattle.board_raise.specs.ReachLaws.{SendsReachTheSame, SignalsReachTheSame};
 ghost use Rattle.board_raise.specs.Steady.{SendsSteadily};
+
+pub use lacks::Lacks;
+pub use row::LapicRow;
 
 /// A law: of some named processors the sets that are chosen under all wishes are those that may be reached.
 #[tactic(auto, using(crate::proofs::Choice::wishes_choose_exactly))]
