@@ -9,3 +9,5 @@ pub mod Steady
 pub mod OnRow
 pub mod InHand
 pub mod Told
+pub mod Lending
+pub mod OneBoard

@@ -7,20 +7,24 @@
 #![tactic(auto)]
 
 mod lacks;
+mod one;
 mod parts;
 mod rig;
 mod row;
-
-pub use board_model::TriggerWord;
-pub use lacks::Lacks;
-pub use parts::{IoPart, Parts, PicPart, RegistryPart};
-pub use rig::Rig;
-pub use row::LapicRow;
+mod words;
 
 ghost use Rattle.board_raise.specs.Laws.{WishesChooseExactly, WishesReachExactly, IllegalVectorIsRecorded};
 ghost use Rattle.board_raise.specs.PinLaws.{PicPinsFollowHolds, IoapicPinsFollowHolds};
 ghost use Rattle.board_raise.specs.ReachLaws.{SendsReachTheSame, SignalsReachTheSame};
 ghost use Rattle.board_raise.specs.Steady.{SendsSteadily};
+
+pub use board_model::TriggerWord;
+pub use lacks::Lacks;
+pub use one::OneBoard;
+pub use parts::{IoPart, Parts, PicPart, RegistryPart};
+pub use rig::Rig;
+pub use row::LapicRow;
+pub use words::Words;
 
 /// A law: of some named processors the sets that are chosen under all wishes are those that may be reached.
 #[tactic(auto, using(crate::proofs::Choice::wishes_choose_exactly))]

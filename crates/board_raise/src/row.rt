@@ -1,6 +1,8 @@
 //! The local APICs in hand, in a row by their processors' numbers.
 ghost use Rattle.std.specs.Prelude.{◌≡◌, ◌<◌, length, replicate, slice_get, slice_set, Some, None, IfOk};
-ghost use Rattle.std.specs.Option.{option_copied};
+ghost use Rattle.std.specs.Option.{option_copied, option_copied_mut};
+ghost use Rattle.std.specs.Borrow.{sem};
+ghost use Rattle.board_raise.specs.Lending.{LendsApic};
 
 use irq_base::NoMemory;
 use lapic::Lapic;
@@ -54,6 +56,16 @@ impl LapicRow {
         ensures { slice_get self.now n ≡ Some (option_copied result) }
     {
         self.places[n as usize].as_ref()
+    }
+
+    /// The local APIC of the processor, if it is in hand, to be changed.
+    pub fn at_mut(&mut self, n: u16) -> Option<&mut Lapic>
+        requires { n < length self.old }
+        ensures* lends { sem 𝓛 (LendsApic self.entry n result) }
+        ensures value { slice_get self.old n ≡ Some (option_copied_mut result) }
+    {
+        let place = &mut self.places[n as usize];
+        place.as_mut()
     }
 
     /// Puts that into the processor's place, and gives what stood there.

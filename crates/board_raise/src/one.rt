@@ -1,0 +1,108 @@
+//! A rig over all parts of a board on one thread.
+ghost use Rattle.std.specs.Prelude.{◌≡◌, is_some};
+ghost use Rattle.board_raise.specs.OnRow.{apic_in};
+
+use crate::parts::Parts;
+use crate::rig::Rig;
+use crate::row::LapicRow;
+use crate::words::Words;
+use board_model::TriggerWord;
+use irq_base::{Part, Pin, Targets};
+use irq_bits::CpuSet;
+
+/// A rig over parts of its own. It answers the published words from the registry that was published last, which no write to
+/// the lent parts changes, so it is never astray.
+#[derive(Drop)]
+pub struct OneBoard {
+    parts: Parts,
+    words: Words,
+    /// What the next sending is to choose.
+    wish: Option<CpuSet>,
+}
+
+// Whether the local APIC of the processor is in hand.
+fn has_lapic(row: &LapicRow, n: u16) -> bool
+    ensures { result ≡ is_some (apic_in row.now n) }
+{
+    (n as usize) < row.len() && row.at(n).is_some()
+}
+
+impl OneBoard {
+    /// A rig over these parts, whose board published these words.
+    pub fn new(parts: Parts, words: Words, wish: Option<CpuSet>) -> OneBoard
+        ensures parts { result.parts ≡ parts }
+        ensures words { result.words ≡ words }
+        ensures wish { result.wish ≡ wish }
+    {
+        OneBoard { parts, words, wish }
+    }
+
+    /// The parts as they are now, and the words.
+    pub fn into_parts(self) -> (Parts, Words)
+        ensures parts { result.0 ≡ self.parts }
+        ensures words { result.1 ≡ self.words }
+    {
+        (self.parts, self.words)
+    }
+}
+
+impl Rig for OneBoard {
+    ghost use Rattle.std.specs.Prelude.{◌≡◌, false, refl};
+    ghost use Rattle.board_raise.specs.OneBoard.{with_parts, words_in, wishes_of};
+
+    ghost held = { λ r. r.parts };
+
+    ghost published = { λ r. words_in r.words };
+
+    ghost astray = { λ _. false };
+
+    ghost wishes = { λ r. wishes_of r.wish };
+
+    ghost with_held = { with_parts };
+
+    ghost held_with = { λ r p. refl };
+
+    ghost published_with = { λ r p. refl };
+
+    ghost wishes_with = { λ r p. refl };
+
+    ghost astray_with = { λ r p. refl };
+
+    fn parts(&mut self) -> &mut Parts {
+        &mut self.parts
+    }
+
+    fn has(&self, part: Part) -> bool {
+        match part {
+            Part::Registry => self.parts.registry.is_some(),
+            Part::Counters => self.parts.counters.is_some(),
+            Part::Tick => self.parts.tick.is_some(),
+            Part::Pic => self.parts.pic.is_some(),
+            Part::Ioapic => self.parts.ioapic.is_some(),
+            Part::Lapic(n) => has_lapic(&self.parts.lapics, n),
+        }
+    }
+
+    fn targets(&mut self, gsi: u16) -> Targets {
+        self.words.targets(gsi)
+    }
+
+    fn marked(&mut self, gsi: u16) -> bool {
+        self.words.marked(gsi)
+    }
+
+    fn gsi_of(&mut self, pin: Pin) -> Option<u16> {
+        self.words.gsi_of(pin)
+    }
+
+    fn trigger(&mut self, trigger: u16) -> Option<TriggerWord> {
+        self.words.trigger(trigger)
+    }
+
+    fn wish(&mut self) -> CpuSet {
+        match self.wish.take() {
+            None => CpuSet::empty(),
+            Some(wish) => wish,
+        }
+    }
+}
