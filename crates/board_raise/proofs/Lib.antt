@@ -6,3 +6,4 @@ pub mod SignalReach
 pub mod Illegal
 pub mod Steady
 pub mod Publishing
+pub mod InHand

@@ -1,10 +1,9 @@
 -- What published words tell, where they tell the routing of their registry.
-use Rattle.std.proofs.Common.{◌≡◌, ℕ, ◌+◌, ◌-◌, ◌/◌, ◌%◌, ◌^◌, ◌<◌, Bool, true, false, nat_eq, if◌then◌else◌, Some, None, sym, ap, ◌∙◌, subst, refl, arith}
+use Rattle.std.proofs.Common.{◌≡◌, ℕ, ◌<◌, Bool, true, false, nat_eq, if◌then◌else◌, Some, None, sym, ap, refl, arith}
 use Rattle.std.proofs.Math.Logic.{∥∥₁_elim}
 use Rattle.std.specs.Prelude.{IfSome, option_map}
 use Rattle.std.specs.Coded.{Coded, coded_ℕ, coded_bool, coded_option, coded×, code_by}
 use base.Stored.{Coded-set}
-use Rattle.std.specs.declared.option.Option.{Option}
 use Rattle.irq_base.specs.declared.event.Pin.{Pin}
 use Rattle.irqfd_set.specs.Rows.{of_trigger}
 use Rattle.route_table.specs.Rows.{targets_of}
@@ -14,7 +13,7 @@ use Rattle.route_table.specs.Words.{bits_at}
 use Rattle.board_model.specs.declared.trigger.TriggerWord.{TriggerWord}
 use Rattle.board_model.specs.Registry.{RegistryPart}
 use Rattle.board_model.specs.Routing.{is_marked, trigger_of}
-use Rattle.board_model.specs.Published.{published, routing_of_words, trigger_in, trigger_word_at}
+use Rattle.board_model.specs.Published.{published, routing_of_words, trigger_in}
 use Rattle.board_model.specs.Laws.{PublishesRouting}
 
 abbrev trigger_code : Coded TriggerWord

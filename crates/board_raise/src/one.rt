@@ -1,5 +1,7 @@
 //! A rig over all parts of a board on one thread.
 ghost use Rattle.std.specs.Prelude.{◌≡◌, is_some};
+ghost use Rattle.board_model.specs.Hand.{part_in};
+ghost use Rattle.board_raise.specs.InHand.{parts_of};
 ghost use Rattle.board_raise.specs.OnRow.{apic_in};
 
 use crate::parts::Parts;
@@ -25,6 +27,21 @@ fn has_lapic(row: &LapicRow, n: u16) -> bool
     ensures { result ≡ is_some (apic_in row.now n) }
 {
     (n as usize) < row.len() && row.at(n).is_some()
+}
+
+// Whether the part is in hand.
+#[tactic(auto, using(crate::proofs::InHand::held_rules))]
+fn has_part(parts: &Parts, part: Part) -> bool
+    ensures { result ≡ is_some (part_in (parts_of parts.now) part) }
+{
+    match part {
+        Part::Registry => parts.registry.is_some(),
+        Part::Counters => parts.counters.is_some(),
+        Part::Tick => parts.tick.is_some(),
+        Part::Pic => parts.pic.is_some(),
+        Part::Ioapic => parts.ioapic.is_some(),
+        Part::Lapic(n) => has_lapic(&parts.lapics, n),
+    }
 }
 
 impl OneBoard {
@@ -73,14 +90,7 @@ impl Rig for OneBoard {
     }
 
     fn has(&self, part: Part) -> bool {
-        match part {
-            Part::Registry => self.parts.registry.is_some(),
-            Part::Counters => self.parts.counters.is_some(),
-            Part::Tick => self.parts.tick.is_some(),
-            Part::Pic => self.parts.pic.is_some(),
-            Part::Ioapic => self.parts.ioapic.is_some(),
-            Part::Lapic(n) => has_lapic(&self.parts.lapics, n),
-        }
+        has_part(&self.parts, part)
     }
 
     fn targets(&mut self, gsi: u16) -> Targets {

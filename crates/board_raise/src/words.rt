@@ -5,6 +5,7 @@ ghost use Rattle.route_table.specs.Rows.{targets_of};
 ghost use Rattle.route_table.specs.Words.{is_route};
 ghost use Rattle.irqfd_set.specs.Rows.{of_trigger};
 ghost use Rattle.board_model.specs.Laws.{PublishesRouting};
+ghost use Rattle.board_model.specs.Published.{IsSoundRegistry};
 ghost use Rattle.board_model.specs.Routing.{is_marked, trigger_of};
 ghost use Rattle.board_raise.specs.InHand.{registry_of};
 
@@ -26,9 +27,9 @@ impl Words {
     ghost use Rattle.board_model.specs.Published.{routing_of_words};
     ghost use Rattle.board_raise.specs.OneBoard.{words_in};
 
-    /// The words of a registry that publishes its routing.
+    /// The words of a sound registry.
     pub fn of(registry: RegistryPart, tick: u16) -> Words
-        requires { PublishesRouting (registry_of registry) tick }
+        requires { IsSoundRegistry (registry_of registry) tick }
         ensures registry { result.registry ≡ registry }
         ensures tick { result.tick ≡ tick }
     {
