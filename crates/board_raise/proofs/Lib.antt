@@ -7,3 +7,5 @@ pub mod Illegal
 pub mod Steady
 pub mod Publishing
 pub mod InHand
+pub mod Rows
+pub mod OnHand
