@@ -9,3 +9,4 @@ pub mod Publishing
 pub mod InHand
 pub mod Rows
 pub mod OnHand
+pub mod Telling

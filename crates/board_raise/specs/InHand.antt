@@ -1,5 +1,6 @@
 -- The parts in hand that the code has, as parts of the model.
-use Rattle.std.specs.Prelude.{option_map}
+use Rattle.std.specs.Prelude.{◌≡◌, ℕ, length, option_map}
+use Rattle.std.specs.declared.option.Option.{Option}
 use Rattle.board_model.specs.Registry.{RegistryPart}
 use Rattle.board_model.specs.Chips.{PicPart, without_pins, IoapicPart}
 use Rattle.board_model.specs.Hand.{Parts}
@@ -8,6 +9,7 @@ use Rattle.board_raise.specs.declared.parts.PicPart as pic
 use Rattle.board_raise.specs.declared.parts.IoPart as ioapic
 use Rattle.board_raise.specs.declared.parts.Parts as parts
 use Rattle.board_raise.specs.Fit.{Pins}
+use Rattle.board_raise.specs.OnRow.{Row, apic_in}
 
 -- the table and the registrations
 abbrev pub registry_of : registry.RegistryPart → RegistryPart
@@ -38,3 +40,15 @@ chips_of p = record {
   pic = option_map (λ (c : pic.PicPart). (c.pair, c.levels)) p.pic;
   ioapic = option_map (λ (c : ioapic.IoPart). (c.ioapic, c.levels)) p.ioapic;
 }
+
+-- ---- what a sending changes of them
+
+-- the number of a processor's local APIC, if it is in hand
+abbrev pub number_in : Row → ℕ → Option ℕ
+number_in row n = option_map (λ apic. apic.number) (apic_in row n)
+
+-- only local APICs change: each stands where one stood, and has its number
+pub record OnlyApicsChange (old new : parts.Parts) : Type 0 where
+  pub others : new ≡ record old { lapics = new.lapics }
+  pub places : length new.lapics ≡ length old.lapics
+  pub numbers : (n : ℕ) → number_in new.lapics n ≡ number_in old.lapics n

@@ -1,17 +1,27 @@
 -- What the status of a sending tells: by it alone, what the message answers, what shows and whom it reached.
-use Rattle.std.specs.Prelude.{◌≡◌, false, List, [], ◌∷◌, Result, Ok, Err, Some, None}
+use Rattle.std.specs.Prelude.{◌≡◌, ℕ, if◌then◌else◌, false, List, [], ◌∷◌, Result, Ok, Err, Some, None}
 use Rattle.std.specs.declared.option.Option.{Option}
 use Rattle.irq_base.specs.declared.event.Event.{Event}
 use Rattle.irq_base.specs.declared.event.Event.TheVariants.{Injected, Resent, Ipi}
+use Rattle.irq_base.specs.declared.message.Message.{Message}
 use Rattle.irq_base.specs.declared.reply.Reply.{Reply}
 use Rattle.irq_base.specs.declared.reply.Reply.TheVariants.{Signal}
 use Rattle.irq_base.specs.declared.status.Status.{Status}
 use Rattle.irq_base.specs.declared.status.Status.TheVariants.{Delivered, Coalesced, Ignored, Lowered}
+use Rattle.lapic.specs.declared.outcome.Shorthand.{Shorthand}
 use Rattle.board_model.specs.Hand.{Parts}
-use Rattle.board_model.specs.Statuses.{TargetAnswer, newly_taken, stood_already, no_effect, sets_of, status_of}
+use Rattle.board_model.specs.Statuses.{Sent, is_empty, TargetAnswer, newly_taken, stood_already, no_effect, sets_of, status_of}
 use Rattle.board_model.specs.Plan.{Heading, About, injected, resent, ipi, the_reply}
 use Rattle.board_model.specs.Run.{Sending, Log, Wishes, OnParts, gives, lacks}
 use Rattle.board_raise.specs.declared.lacks.Lacks.{Lacks}
+
+-- the message, with the sender and the shorthand of an interprocessor interrupt
+abbrev pub heading_of : Message → Option (ℕ × Shorthand) → Heading
+heading_of message from = record { message = message; from = from }
+
+-- the status of a message that reached these processors
+abbrev pub status_told : Sent → Status
+status_told sent = if is_empty sent.new then Coalesced sent.stood else Delivered sent.new sent.stood false
 
 -- what the message answers
 abbrev pub answer_in : Status → TargetAnswer
