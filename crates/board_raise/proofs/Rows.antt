@@ -1,10 +1,14 @@
 -- Rows of local APICs: a write at one place, and what stands at the others.
-use Rattle.std.proofs.Common.{◌≡◌, ◌≢◌, ℕ, zero, suc, false, nat_eq, List, [], ◌∷◌, slice_get, slice_set, refl, ap, ◌∙◌, arith}
+use Rattle.std.proofs.Common.{◌≡◌, ◌≢◌, ℕ, zero, suc, Bool, true, false, nat_eq, ◌||◌, List, [], ◌∷◌, length, slice_get, slice_set, if◌then◌else◌, refl, sym, ap, ◌∙◌, arith, Some, None}
 use Rattle.std.specs.List.{list_any}
 use Rattle.std.specs.declared.option.Option.{Option}
+use Rattle.std.specs.FinSet as set
+use Rattle.irq_bits.specs.Members.{Numbers}
+use Rattle.irq_base.specs.declared.message.Message.{Message}
 use Rattle.lapic.specs.Registers.{LocalApic}
+use Rattle.lapic.specs.Messages.{accepted}
 use Rattle.board_model.specs.Hand.{flat}
-use Rattle.board_raise.specs.OnRow.{Row, apic_in}
+use Rattle.board_raise.specs.OnRow.{Row, apic_in, accepted_at, accepted_by}
 use Rattle.board_raise.proofs.Sending.{neither}
 
 slice_get-set_other : {X : Type 0} (xs : List X) (i j : ℕ) (x : X) → i ≢ j → slice_get (slice_set xs i x) j ≡ slice_get xs j
