@@ -1,9 +1,13 @@
 pub mod Choice
-pub mod Sending
+pub mod SendExactly
 pub mod Pins
 pub mod Reaching
 pub mod SignalReach
 pub mod Illegal
 pub mod Steady
+pub mod Between
+pub mod Naming
+pub mod Told
+pub mod Delivered
 pub mod Rows
 pub mod OnHand

@@ -8,3 +8,4 @@ pub mod ReachLaws
 pub mod Steady
 pub mod OnRow
 pub mod Lending
+pub mod RowSteps

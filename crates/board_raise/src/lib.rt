@@ -7,6 +7,7 @@
 
 mod lacks;
 mod row;
+mod sending;
 
 ghost use Rattle.board_raise.specs.Laws.{WishesChooseExactly, WishesReachExactly, IllegalVectorIsRecorded};
 ghost use Rattle.board_raise.specs.PinLaws.{PicPinsFollowHolds, IoapicPinsFollowHolds};
@@ -24,7 +25,7 @@ pub fn wishes_choose_exactly()
 
 /// A law: a message that comes to be sent is sent once, and the sets of processors that it reaches under all wishes are
 /// those that it may reach: all the named ones of the board, or for lowest priority any one of least PPR.
-#[tactic(auto, using(crate::proofs::Sending::wishes_reach_exactly))]
+#[tactic(auto, using(crate::proofs::SendExactly::wishes_reach_exactly))]
 pub fn wishes_reach_exactly()
     ensures { WishesReachExactly }
 {}
