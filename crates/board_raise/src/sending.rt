@@ -58,7 +58,6 @@ pub fn name_processors(
     message: &Message,
     from: Option<(u16, Shorthand)>,
 ) -> Result<Named, Lacks>
-    requires some_cpus { 1 ≤ cpus }
     requires few_cpus { cpus ≤ 64 }
     requires places { length row.now ≡ cpus }
     ensures lacking { MatchResult result (λ _. first_missing row.now (reached_by message.now from cpus) ≡ None) (λ l. option_map Lapic (first_missing row.now (reached_by message.now from cpus)) ≡ Some l.part) }
