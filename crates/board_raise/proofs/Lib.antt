@@ -1,5 +1,5 @@
 pub mod Choice
-pub mod Sending
+pub mod SendExactly
 pub mod Pins
 pub mod Reaching
 pub mod SignalReach
@@ -7,6 +7,10 @@ pub mod Illegal
 pub mod Steady
 pub mod Publishing
 pub mod InHand
+pub mod Between
+pub mod Naming
+pub mod Told
+pub mod Delivered
 pub mod Rows
 pub mod OnHand
 pub mod Telling

@@ -1,27 +1,26 @@
 -- A sending on the parts in hand is one on the row of the local APICs.
-use Rattle.std.proofs.Common.{◌≡◌, ℕ, Bool, true, false, not, ◌||◌, nat_eq, arith, if◌then◌else◌, List, [], ◌∷◌, slice_set, refl, sym, ap, ◌∙◌, true≢false, Some, None}
+use Rattle.std.proofs.Common.{◌≡◌, ℕ, true, false, not, nat_eq, if◌then◌else◌, List, [], ◌∷◌, refl, sym, ap, ◌∙◌, Some, None}
 use Rattle.std.specs.declared.option.Option.{Option}
 use Rattle.std.specs.List.{list_any}
 use Rattle.std.specs.FinSet as set
 use Rattle.irq_bits.specs.Members.{Numbers}
-use Rattle.irq_bits.specs.SetLemmas.{contains-insert_number, not_in_empty}
 use Rattle.irq_base.specs.declared.message.Message.{Message}
 use Rattle.irq_base.specs.declared.shape.Part.TheVariants.{Lapic}
 use Rattle.irq_base.specs.declared.status.Cause.TheVariants.{NoProcessor, BadVector, Mode as BadMode}
 use Rattle.lapic.specs.declared.outcome.Shorthand.{Shorthand}
 use Rattle.lapic.specs.Registers.{LocalApic}
 use Rattle.lapic.specs.Messages.{is_taken, accepted}
-use Rattle.board_model.specs.Board.{ValueOf}
-use Rattle.board_model.specs.Hand.{Parts, part_in, with_part_in}
-use Rattle.board_model.specs.Statuses.{Sent, TargetAnswer, message_answer}
-use Rattle.board_model.specs.Plan.{Heading, About, Plan, done, look, put, choose, ◌>>=◌, ◌>>◌}
-use Rattle.board_model.specs.Run.{Log, silence, both, sending, Wishes, next_wish, later_wishes, OnParts, gives, lacks, with_log_on, run_on, then_on}
+use Rattle.board_model.specs.Hand.{Parts, with_part_in}
+use Rattle.board_model.specs.Statuses.{message_answer}
+use Rattle.board_model.specs.Plan.{About, Plan, done, put, ◌>>=◌, ◌>>◌}
+use Rattle.board_model.specs.Run.{silence, both, sending, Wishes, next_wish, later_wishes, OnParts, gives, lacks, with_log_on, run_on, then_on}
 use Rattle.board_model.specs.Following.{reached}
 use Rattle.board_model.proofs.Sequence.{run_on-bind}
-use Rattle.board_raise.specs.Named.{Processor, named_by, chosen_of, numbers_of}
-use Rattle.board_raise.specs.Send.{ignore, reached_by, see_each, is_illegal, accept_each, refuse_vector, deliver, send_to, send, parted}
+use Rattle.board_raise.specs.Named.{Processor, named_by, numbers_of}
+use Rattle.board_raise.specs.Send.{ignore, reached_by, see_each, is_illegal, accept_each, refuse_vector, deliver, send_to, send}
 use Rattle.board_raise.specs.OnRow.{Row, apic_in, missing_or, first_missing, with_processor, processors_in, accepted_at, accepted_by, named_in, sent_in}
-use Rattle.board_raise.proofs.Sending.{Apart, of_reached, below_apart, only_apart}
+use Rattle.board_raise.proofs.SendExactly.{Apart, of_reached, below_apart, only_apart}
+use Rattle.board_raise.proofs.Told.{nobody_told}
 use Rattle.board_raise.proofs.Rows.{Same, same_itself, same_after}
 
 -- ---- the processors that are looked at
@@ -101,13 +100,6 @@ module _ {A : Type 0} (message : Message) (takers : Numbers) (rest : Plan A) (ws
   accepting (n ∷ ns) apart all q same = one_more n ns q apart.0 same.0 same.1 (accepting ns apart.1 (present_later n (apic_in row n) (first_missing row ns) all)) (apic_in row n) refl all
 
 -- ---- a sending
-
--- where no number is told, nobody is there
-nobody_told : (ps : List Processor) → numbers_of ps ≡ set.empty → ps ≡ []
-nobody_told [] h = refl
-nobody_told (p ∷ ps) h =
-    let itself : nat_eq p.number p.number ≡ true = grind arith in
-    absurd (not_in_empty (numbers_of (p ∷ ps)) p.number h (contains-insert_number (numbers_of ps) p.number p.number ∙ ap (λ t. t || set.contains (numbers_of ps) p.number) itself))
 
 -- no number stands twice among the processors that are looked at
 pub reached_apart : (message : Message) (from : Option (ℕ × Shorthand)) (cpus : ℕ) → Apart (reached_by message from cpus)

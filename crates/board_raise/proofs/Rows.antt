@@ -1,15 +1,13 @@
 -- Rows of local APICs: a write at one place, and what stands at the others.
-use Rattle.std.proofs.Common.{◌≡◌, ◌≢◌, ℕ, zero, suc, Bool, true, false, nat_eq, ◌||◌, List, [], ◌∷◌, length, slice_get, slice_set, if◌then◌else◌, refl, sym, ap, ◌∙◌, arith, Some, None}
+use Rattle.std.proofs.Common.{◌≡◌, ◌≢◌, ℕ, zero, suc, false, nat_eq, List, [], ◌∷◌, slice_get, slice_set, refl, ap, ◌∙◌, arith, Some, None}
 use Rattle.std.specs.List.{list_any}
 use Rattle.std.specs.declared.option.Option.{Option}
-use Rattle.std.specs.FinSet as set
-use Rattle.irq_bits.specs.Members.{Numbers}
 use Rattle.irq_base.specs.declared.message.Message.{Message}
 use Rattle.lapic.specs.Registers.{LocalApic}
 use Rattle.lapic.specs.Messages.{accepted}
 use Rattle.board_model.specs.Hand.{flat}
-use Rattle.board_raise.specs.OnRow.{Row, apic_in, accepted_at, accepted_by}
-use Rattle.board_raise.proofs.Sending.{neither}
+use Rattle.board_raise.specs.OnRow.{Row, apic_in, accepted_at}
+use Rattle.board_raise.proofs.SendExactly.{neither}
 
 slice_get-set_other : {X : Type 0} (xs : List X) (i j : ℕ) (x : X) → i ≢ j → slice_get (slice_set xs i x) j ≡ slice_get xs j
 slice_get-set_other [] i j x h = refl
@@ -42,3 +40,7 @@ same_after row other k x [] apart same = tt
 same_after row other k x (n ∷ ns) apart same =
     let each = neither (nat_eq n k) (list_any (λ n. nat_eq n k) ns) apart in
     (apic_in-other row k n x each.0 ∙ same.0, same_after row other k x ns each.1 same.1)
+
+pub same_accepted : (row other : Row) (k : ℕ) (x : Option LocalApic) (message : Message) (ns : List ℕ) → list_any (λ n. nat_eq n k) ns ≡ false → Same row other ns → Same (accepted_at k x message row) other ns
+same_accepted row other k None message ns apart same = same
+same_accepted row other k (Some a) message ns apart same = same_after row other k (Some (accepted a message)) ns apart same

@@ -11,3 +11,4 @@ pub mod InHand
 pub mod Told
 pub mod Lending
 pub mod OneBoard
+pub mod RowSteps

@@ -7,10 +7,12 @@
 #![tactic(auto)]
 
 mod lacks;
+mod on_rig;
 mod one;
 mod parts;
 mod rig;
 mod row;
+mod sending;
 mod words;
 
 ghost use Rattle.board_raise.specs.Laws.{WishesChooseExactly, WishesReachExactly, IllegalVectorIsRecorded};
@@ -20,6 +22,7 @@ ghost use Rattle.board_raise.specs.Steady.{SendsSteadily};
 
 pub use board_model::TriggerWord;
 pub use lacks::Lacks;
+pub use on_rig::send;
 pub use one::OneBoard;
 pub use parts::{IoPart, Parts, PicPart, RegistryPart};
 pub use rig::Rig;
@@ -34,7 +37,7 @@ pub fn wishes_choose_exactly()
 
 /// A law: a message that comes to be sent is sent once, and the sets of processors that it reaches under all wishes are
 /// those that it may reach: all the named ones of the board, or for lowest priority any one of least PPR.
-#[tactic(auto, using(crate::proofs::Sending::wishes_reach_exactly))]
+#[tactic(auto, using(crate::proofs::SendExactly::wishes_reach_exactly))]
 pub fn wishes_reach_exactly()
     ensures { WishesReachExactly }
 {}

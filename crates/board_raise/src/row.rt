@@ -1,11 +1,14 @@
 //! The local APICs in hand, in a row by their processors' numbers.
-ghost use Rattle.std.specs.Prelude.{◌≡◌, ◌<◌, length, replicate, slice_get, slice_set, Some, None, IfOk};
+ghost use Rattle.std.specs.Prelude.{◌≡◌, ◌<◌, length, replicate, slice_get, slice_set, Some, None, IfOk, IsTrue, is_some};
 ghost use Rattle.std.specs.Option.{option_copied, option_copied_mut};
 ghost use Rattle.std.specs.Borrow.{sem};
+ghost use Rattle.lapic.specs.Messages.{is_taken};
 ghost use Rattle.board_raise.specs.Lending.{LendsApic};
+ghost use Rattle.board_raise.specs.OnRow.{apic_in, accepted_at};
+ghost use Rattle.board_raise.specs.RowSteps.{answer_at};
 
-use irq_base::NoMemory;
-use lapic::Lapic;
+use irq_base::{Message, NoMemory};
+use lapic::{Accepted, Lapic};
 use std::alloc::Global;
 use std::marker::Model;
 use std::mem;
@@ -58,6 +61,14 @@ impl LapicRow {
         self.places[n as usize].as_ref()
     }
 
+    /// Whether the local APIC of the processor is in hand.
+    pub fn holds(&self, n: u16) -> bool
+        requires { n < length self.now }
+        ensures { result ≡ is_some (apic_in self.now n) }
+    {
+        self.places[n as usize].is_some()
+    }
+
     /// The local APIC of the processor, if it is in hand, to be changed.
     pub fn at_mut(&mut self, n: u16) -> Option<&mut Lapic>
         requires { n < length self.old }
@@ -75,5 +86,17 @@ impl LapicRow {
         ensures after { self.new ≡ slice_set self.old n lapic }
     {
         mem::replace(&mut self.places[n as usize], lapic)
+    }
+    /// The local APIC of the processor, if it is in hand, accepts the message and answers.
+    pub(crate) fn accept_at(&mut self, n: u16, message: &Message) -> Option<Accepted>
+        requires place { n < length self.old }
+        requires taken { IsTrue (is_taken message.now.mode) }
+        ensures answer { result ≡ answer_at (apic_in self.old n) message.now }
+        ensures after { self.new ≡ accepted_at n (apic_in self.old n) message.now self.old }
+    {
+        match self.at_mut(n) {
+            None => None,
+            Some(lapic) => Some(lapic.accept(message)),
+        }
     }
 }
