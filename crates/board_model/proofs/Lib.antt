@@ -6,3 +6,4 @@ pub mod Sequence
 pub mod OnParts
 pub mod Followed
 pub mod Pins
+pub mod Words

@@ -72,5 +72,10 @@ pub record PublishesRouting (registry : RegistryPart) (tick : ℕ) : Type 0 wher
   pub count : length (published registry tick) ≡ 4392
   pub told : routing_of_words (published registry tick) ≡ routing_of_registry registry tick
 
+-- every sound registry publishes its routing
 abbrev pub WordsTellTheRouting : Type 0
 WordsTellTheRouting = (registry : RegistryPart) (tick : ℕ) → IsSoundRegistry registry tick → PublishesRouting registry tick
+
+-- two sound registries that publish the same words have one routing
+abbrev pub PublishedDecides : Type 0
+PublishedDecides = (registry other : RegistryPart) (tick other_tick : ℕ) → IsSoundRegistry registry tick → IsSoundRegistry other other_tick → published registry tick ≡ published other other_tick → routing_of_registry registry tick ≡ routing_of_registry other other_tick

@@ -1,6 +1,6 @@
 -- The words in which the routing of a board is published, in this board's own format: 4,096 words of GSIs, 256 of triggers,
 -- 16 of the pins of the 8259A pair and 24 of those of the I/O APIC.
-use Rattle.std.specs.Prelude.{◌≡◌, ℕ, ◌+◌, ◌-◌, ◌*◌, ◌^◌, ◌<◌, zero, suc, Bool, nat_eq, nat_lt, if◌then◌else◌, List, [], ◌∷◌, ◌++◌, slice_index, All, IsTrue, Some, None}
+use Rattle.std.specs.Prelude.{◌≡◌, ℕ, ◌+◌, ◌*◌, ◌^◌, ◌<◌, zero, suc, nat_eq, nat_lt, if◌then◌else◌, List, [], ◌∷◌, ◌++◌, slice_index, All, IsTrue, Some, None}
 use Rattle.std.specs.declared.option.Option.{Option}
 use Rattle.irq_base.specs.declared.call.Row.{Row}
 use Rattle.irq_base.specs.declared.event.Pin.{Pin}
@@ -48,7 +48,7 @@ unfoldable pub words_of : Routing → List ℕ
 words_of routing =
     each_below 4096 (λ gsi. word_of (routing.targets gsi) (routing.marked gsi))
     ++ (each_below 256 (λ counter. trigger_word (routing.trigger counter))
-      ++ (each_below 16 (λ pin. pin_word (routing.gsi_of (Pic pin))) ++ each_below 24 (λ pin. pin_word (routing.gsi_of (Ioapic pin)))))
+    ++ (each_below 16 (λ pin. pin_word (routing.gsi_of (Pic pin))) ++ each_below 24 (λ pin. pin_word (routing.gsi_of (Ioapic pin)))))
 
 -- what a board publishes: the words of its registry, ticks going to this GSI
 abbrev pub published : RegistryPart → ℕ → List ℕ

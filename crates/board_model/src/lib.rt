@@ -11,9 +11,9 @@
 
 mod trigger;
 
-pub use trigger::TriggerWord;
+ghost use Rattle.board_model.specs.Laws.{UnreachedStays, FrameStays, AgreeingAlike, ShownDecides, ExactOnParts, LackingExactly, ShownFollowed, RunInSequence, RunOnInSequence, ReachesInSequence, StatusShowsSets, PinsFollowHolds, WordsTellTheRouting, PublishedDecides};
 
-ghost use Rattle.board_model.specs.Laws.{UnreachedStays, FrameStays, AgreeingAlike, ShownDecides, ExactOnParts, LackingExactly, ShownFollowed, RunInSequence, RunOnInSequence, ReachesInSequence, StatusShowsSets, PinsFollowHolds};
+pub use trigger::TriggerWord;
 
 /// A law: a part outside the reach of a plan stays as it is.
 #[tactic(auto, using(crate::proofs::Staying::unreached_stays))]
@@ -88,4 +88,15 @@ pub fn status_shows_sets()
 #[tactic(auto, using(crate::proofs::Pins::pins_follow_holds))]
 pub fn pins_follow_holds()
     ensures { PinsFollowHolds }
+{}
+
+/// A law: a sound registry publishes 4,392 words, and these words tell its routing.
+pub fn words_tell_the_routing()
+    ensures { WordsTellTheRouting }
+{}
+
+/// A law: two sound registries that publish the same words have the same routing.
+#[tactic(auto, using(crate::proofs::Words::published_decides))]
+pub fn published_decides()
+    ensures { PublishedDecides }
 {}
