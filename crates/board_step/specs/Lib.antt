@@ -9,3 +9,4 @@ pub mod Reach
 pub mod Sound
 pub mod History
 pub mod Laws
+pub mod HistoryLaws
