@@ -13,13 +13,13 @@ use Rattle.ioapic_82093aa.specs.Pins.{raise_of}
 use Rattle.msi_decode.specs.Messages.{message_in}
 use Rattle.board_model.specs.Board.{Board, with_part, is_same}
 use Rattle.board_model.specs.Chips.{pair_of, ioapic_of}
-use Rattle.board_model.specs.Statuses.{TargetAnswer}
-use Rattle.board_model.specs.Plan.{About, injected, resent, ipi, the_reply, done}
+use Rattle.board_model.specs.Statuses.{nobody, TargetAnswer, status_of}
+use Rattle.board_model.specs.Plan.{About, injected, resent, ipi, the_reply, Plan, done, ◌>>=◌, ◌>>◌}
 use Rattle.board_model.specs.Run.{Wishes, run, reaches}
 use Rattle.board_model.proofs.Sequence.{reaches-bind}
 use Rattle.pic_8259a.specs.Pair.{pin_outcome}
 use Rattle.board_raise.specs.Send.{show, send}
-use Rattle.board_raise.specs.Signal.{is_accepted, accept_pin, ioapic_answered, ioapic_raised, pic_raised, pic_answer, raise_other, raise, let_go, let_go_after, lower}
+use Rattle.board_raise.specs.Signal.{is_accepted, accept_pin, answer_shown, ioapic_answered, ioapic_raised, pic_raised, pic_answer, raise_other, raise, let_go, let_go_after, lower}
 use Rattle.board_raise.specs.ReachLaws.{of_pin, of_answer, of_other, of_fall, SignalsReachTheSame}
 use Rattle.board_raise.proofs.Reaching.{or_false, absorbed, sends_reach}
 
@@ -29,6 +29,13 @@ module _ (q : Part) where
   show_reach (resent pin) other b ws = refl
   show_reach ipi other b ws = refl
   show_reach (the_reply pic) other b ws = refl
+
+  -- a plan with another value at its end reaches the same
+  ended_reach : {A B : Type 0} (m : Plan A) (a : B) (b : Board) (ws : Wishes) → reaches (m >> done a) b ws q ≡ reaches m b ws q
+  ended_reach m a b ws = reaches-bind (λ _. done a) m b ws q ∙ or_false _
+
+  shown_reach : (about : About) (other : Option TargetAnswer) (b : Board) (ws : Wishes) → reaches (answer_shown about other) b ws q ≡ false
+  shown_reach about other b ws = ended_reach (show about other) other b ws ∙ show_reach about other b ws
 
   -- to set remote IRR reaches the I/O APIC at most
   accept_reach : (pin : ℕ) (t : Bool) (b : Board) (ws : Wishes) → reaches (accept_pin pin t) b ws q ≡ true → is_same Ioapic q ≡ true
@@ -47,11 +54,11 @@ module _ (q : Part) where
 
   answered_reach : (cpus pin : ℕ) (about : About) (answer : Raise) (b : Board) (ws : Wishes)
       → (is_same Ioapic q || reaches (ioapic_answered cpus pin about answer) b ws q) ≡ (is_same Ioapic q || of_answer answer cpus q)
-  answered_reach cpus pin about raises.Masked b ws = ap (λ r. is_same Ioapic q || r) (show_reach about _ b ws)
-  answered_reach cpus pin about raises.Stood b ws = ap (λ r. is_same Ioapic q || r) (show_reach about _ b ws)
+  answered_reach cpus pin about raises.Masked b ws = ap (λ r. is_same Ioapic q || r) (shown_reach about _ b ws)
+  answered_reach cpus pin about raises.Stood b ws = ap (λ r. is_same Ioapic q || r) (shown_reach about _ b ws)
   answered_reach cpus pin about (raises.Send message) b ws =
-      ap (λ r. is_same Ioapic q || r) (reaches-bind (λ answer. accept_pin pin (is_accepted message answer)) (send cpus message None about) b ws q)
-      ∙ more_of _ _ _ (accept_reach pin _ _ _)
+      ap (λ r. is_same Ioapic q || r) (reaches-bind (λ answer. accept_pin pin (is_accepted message answer) >> done (Some answer)) (send cpus message None about) b ws q)
+      ∙ more_of _ _ _ (λ h. accept_reach pin _ _ _ (sym (ended_reach (accept_pin pin _) (Some _) _ _) ∙ h))
       ∙ ap (λ r. is_same Ioapic q || r) (sends_reach cpus message None about b ws q)
 
   other_reach : (cpus : ℕ) (ioapic : Option ℕ) (msi : Option MsiWord) (source : Source) (about : About) (b : Board) (ws : Wishes)
@@ -63,17 +70,25 @@ module _ (q : Part) where
       twice true r = refl
       twice false r = refl
   other_reach cpus None (Some word) source about b ws =
-      reaches-bind (λ _. done tt) (send cpus (message_in word.address word.payload) None about) b ws q
+      reaches-bind (λ answer. done (Some answer)) (send cpus (message_in word.address word.payload) None about) b ws q
       ∙ or_false _
       ∙ sends_reach cpus (message_in word.address word.payload) None about b ws q
-  other_reach cpus None None source about b ws = show_reach about None b ws
+  other_reach cpus None None source about b ws = shown_reach about None b ws
+
+  -- the status at the end of a raise
+  status_reach : (cpus : ℕ) (ioapic : Option ℕ) (msi : Option MsiWord) (source : Source) (about : About) (pic : Option TargetAnswer) (b : Board) (ws : Wishes)
+      → reaches (raise_other cpus ioapic msi source about >>= (λ other. done (status_of pic other nobody))) b ws q ≡ of_other b ioapic msi cpus q
+  status_reach cpus ioapic msi source about pic b ws =
+      reaches-bind (λ other. done (status_of pic other nobody)) (raise_other cpus ioapic msi source about) b ws q
+      ∙ or_false _
+      ∙ other_reach cpus ioapic msi source about b ws
 
   raised_by : (cpus : ℕ) (pic ioapic : Option ℕ) (msi : Option MsiWord) (source : Source) (about : Option TargetAnswer → About) (b : Board) (ws : Wishes)
       → reaches (raise cpus (record { pic = pic; ioapic = ioapic; msi = msi }) source about) b ws q ≡ (of_pin pic Pic q || of_other b ioapic msi cpus q)
-  raised_by cpus None ioapic msi source about b ws = other_reach cpus ioapic msi source (about None) b ws
+  raised_by cpus None ioapic msi source about b ws = status_reach cpus ioapic msi source (about None) None b ws
   raised_by cpus (Some pin) ioapic msi source about b ws =
       twice (is_same Pic q) _
-      ∙ ap (λ r. is_same Pic q || r) (other_reach cpus ioapic msi source (about (Some (pic_answer (pin_outcome (pair_of b.pic) pin true)))) (with_part b Pic (pic_raised b.pic pin source)) ws ∙ same ioapic msi)
+      ∙ ap (λ r. is_same Pic q || r) (status_reach cpus ioapic msi source (about (Some (pic_answer (pin_outcome (pair_of b.pic) pin true)))) (Some (pic_answer (pin_outcome (pair_of b.pic) pin true))) (with_part b Pic (pic_raised b.pic pin source)) ws ∙ same ioapic msi)
     where
       twice : (a r : Bool) → (a || (a || r)) ≡ (a || r)
       twice true r = refl
@@ -132,7 +147,7 @@ pub signals_reach_the_same : SignalsReachTheSame
 signals_reach_the_same cpus targets source about b ws q = record {
   raised = raised_by q cpus targets.pic targets.ioapic targets.msi source about b ws;
   fallen = lowered_by q targets.pic targets.ioapic targets.msi source b ws;
-  injected = reaches-bind (λ _. let_go_after targets source) (raise cpus targets source about) b ws q
-      ∙ ap (λ r. r || reaches (let_go_after targets source) (run (raise cpus targets source about) b ws).board (run (raise cpus targets source about) b ws).wishes q) (raised_by q cpus targets.pic targets.ioapic targets.msi source about b ws)
-      ∙ absorbed _ _ (λ h. fall_within q b targets.pic targets.ioapic targets.msi cpus (let_go_within q targets source _ _ h));
+  injected = reaches-bind (λ status. let_go_after targets source >> done status) (raise cpus targets source about) b ws q
+      ∙ ap (λ r. r || reaches (let_go_after targets source >> done (run (raise cpus targets source about) b ws).value) (run (raise cpus targets source about) b ws).board (run (raise cpus targets source about) b ws).wishes q) (raised_by q cpus targets.pic targets.ioapic targets.msi source about b ws)
+      ∙ absorbed _ _ (λ h. fall_within q b targets.pic targets.ioapic targets.msi cpus (let_go_within q targets source _ _ (sym (ended_reach q (let_go_after targets source) _ _ _) ∙ h)));
 }

@@ -21,7 +21,7 @@ use Rattle.ioapic_82093aa.specs.Pins.{raise_of, accepted}
 use Rattle.msi_decode.specs.Messages.{message_in}
 use Rattle.source_levels.specs.Holds.{hold}
 use Rattle.board_model.specs.Chips.{PicPart, pair_of, with_pair, IoapicPart, ioapic_of, with_ioapic}
-use Rattle.board_model.specs.Statuses.{TargetAnswer, newly_taken, stood_already, no_effect}
+use Rattle.board_model.specs.Statuses.{nobody, TargetAnswer, newly_taken, stood_already, no_effect, status_of}
 use Rattle.board_model.specs.Plan.{About, Plan, done, see, set as put_part, change, reply, ◌>>=◌, ◌>>◌}
 use Rattle.board_raise.specs.Send.{show, send}
 
@@ -69,33 +69,41 @@ abbrev pub accept_pin : ℕ → Bool → Plan (Unit {0})
 accept_pin pin true = change Ioapic (λ part. with_ioapic part (accepted (ioapic_of part) pin))
 accept_pin pin false = done tt
 
+-- a target answers without a message sent, and the status shows
+abbrev pub answer_shown : About → Option TargetAnswer → Plan (Option TargetAnswer)
+answer_shown about answer = do
+  show about answer
+  done answer
+
 -- what the pin answers: masked, or its request stood, or it sends the message of its entry
-abbrev pub ioapic_answered : ℕ → ℕ → About → Raise → Plan (Unit {0})
-ioapic_answered cpus pin about raises.Masked = show about (Some (no_effect Masked))
-ioapic_answered cpus pin about raises.Stood = show about (Some stood_already)
+abbrev pub ioapic_answered : ℕ → ℕ → About → Raise → Plan (Option TargetAnswer)
+ioapic_answered cpus pin about raises.Masked = answer_shown about (Some (no_effect Masked))
+ioapic_answered cpus pin about raises.Stood = answer_shown about (Some stood_already)
 ioapic_answered cpus pin about (raises.Send message) = do
   answer ← send cpus message None about
   accept_pin pin (is_accepted message answer)
+  done (Some answer)
 
 -- ---- raise
 
 -- the other target: a pin of the I/O APIC, or a message, which is sent at each raise, or none
-abbrev pub raise_other : ℕ → Option ℕ → Option MsiWord → Source → About → Plan (Unit {0})
+abbrev pub raise_other : ℕ → Option ℕ → Option MsiWord → Source → About → Plan (Option TargetAnswer)
 raise_other cpus (Some pin) msi source about = do
   part ← see Ioapic
   put_part Ioapic (ioapic_raised part pin source)
   ioapic_answered cpus pin about (raise_of (ioapic_of part) pin)
 raise_other cpus None (Some word) source about = do
   answer ← send cpus (message_in word.address word.payload) None about
-  done tt
-raise_other cpus None None source about = show about None
+  done (Some answer)
+raise_other cpus None None source about = answer_shown about None
 
 -- a signal is raised on all targets of its GSI, the 8259A pin first; its status shows where `about` says, with what the
--- 8259A pin answered
-abbrev pub raise : ℕ → Targets → Source → (Option TargetAnswer → About) → Plan (Unit {0})
+-- 8259A pin answered; the plan ends with that status but for the processors that were reached
+abbrev pub raise : ℕ → Targets → Source → (Option TargetAnswer → About) → Plan Status
 raise cpus targets source about = do
   pic ← raise_pic targets.pic source
-  raise_other cpus targets.ioapic targets.msi source (about pic)
+  other ← raise_other cpus targets.ioapic targets.msi source (about pic)
+  done (status_of pic other nobody)
 
 -- ---- lower
 
@@ -132,7 +140,8 @@ let_go_after targets Resample = done tt
 let_go_after targets source = let_go targets source
 
 -- a signal is raised and lowered at once, with the status of the raise; one by a resampler is raised alone
-abbrev pub inject : ℕ → Targets → Source → (Option TargetAnswer → About) → Plan (Unit {0})
+abbrev pub inject : ℕ → Targets → Source → (Option TargetAnswer → About) → Plan Status
 inject cpus targets source about = do
-  raise cpus targets source about
+  status ← raise cpus targets source about
   let_go_after targets source
+  done status

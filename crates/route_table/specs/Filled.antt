@@ -1,6 +1,7 @@
 -- What words and pins that stand for rows answer, as rules.
 use Rattle.std.proofs.Common.{◌≡◌, ℕ, ◌-◌, ◌<◌, Bool, List, [], length, get_or, replicate, Some, None, IfSome, if◌then◌else◌, true, ◌||◌, inl, inr, refl, sym, ap, subst, ◌∙◌, arith}
 use Rattle.std.proofs.lemmas.Bool.Decides.{eqb_tells, leb_tells}
+use Rattle.std.specs.Prelude.{slice_index, IsTrue}
 use Rattle.std.specs.Option.{is_some}
 use Rattle.std.specs.declared.option.Option.{Option}
 use Rattle.route_table.specs.Sound.{or_on}
@@ -8,13 +9,14 @@ use Rattle.std.proofs.lemmas.List.{get_or-replicate, get_or_past, length-replica
 use Rattle.irq_base.specs.declared.call.Row.{Row}
 use Rattle.irq_base.specs.declared.event.Pin.TheVariants.{Pic, Ioapic}
 use Rattle.irq_base.specs.declared.message.Targets.{Targets}
-use Rattle.route_table.specs.Words.{targets_in}
-use Rattle.route_table.specs.Rows.{reasons_after, gsi_in, pic_in, ioapic_in, has_target, first_given, refusal_of}
+use Rattle.route_table.specs.Words.{is_route, targets_in}
+use Rattle.route_table.specs.WordLaws.{targets_in-route}
+use Rattle.route_table.specs.Rows.{reasons_after, gsi_in, pic_in, ioapic_in, has_target, first_given, refusal_of, table_of, targets_of}
 use Rattle.route_table.specs.Pins.{owner, gsi_of}
 use Rattle.route_table.specs.Sound.{Sound, sound_of, owner-row}
 use Rattle.route_table.specs.Standing.{Stands}
 use Rattle.route_table.specs.Tables.{table_in, IsTable}
-use Rattle.route_table.specs.TableLaws.{table_in-rows, targets_of-words, gsi_told, gsi_found}
+use Rattle.route_table.specs.TableLaws.{table_in-rows, targets_of-words, targets_past-words, gsi_told, gsi_found}
 
 -- words and pins of 0 stand for no rows
 pub stands_none : (words pics ioapics : List ℕ) → ((k : ℕ) → get_or words k 0 ≡ 0) → ((n : ℕ) → get_or pics n 0 ≡ 0) → ((n : ℕ) → get_or ioapics n 0 ≡ 0) → Stands words pics ioapics []
@@ -69,6 +71,18 @@ ioapic_owner words spare pics ioapics n t =
     ∙ sym (gsi_found (λ x. x.ioapic) ioapic_in (λ _ _. refl) refl ioapic_target rows sound sound.ioapic sound.ioapic_owned n)
     ∙ ap (λ table. gsi_of table (Ioapic n)) (sym (table_in-rows words pics ioapics rows t.made.1))
 
+-- the rows that a table is made of
+pub made_of : (words spare pics ioapics : List ℕ) → IsTable words spare pics ioapics → (rows : List Row) × (refusal_of rows ≡ None) × (table_in words ≡ table_of rows)
+made_of words spare pics ioapics t = (t.made.0, t.made.2, table_in-rows words pics ioapics t.made.0 t.made.1)
+
+-- each GSI goes to pins that the chips have, or to a good message alone
+pub sends_to_routes : (words : List ℕ) (gsi : ℕ) → IsTrue (is_route (targets_of (table_in words) gsi))
+sends_to_routes words gsi =
+    elim (leb_tells 4096 gsi) [
+      | inl h ↦ subst (λ (t : Targets). IsTrue (is_route t)) (sym (targets_past-words words gsi h.1)) refl
+      | inr h ↦ subst (λ (t : Targets). IsTrue (is_route t)) (sym (targets_of-words words gsi h.1)) (targets_in-route (slice_index words gsi))
+    ]
+
 -- ---- a pin's word is in range
 
 word_low : (f : Row → Option ℕ) (rows : List Row) (n : ℕ) → Sound rows → owner f n rows < 4097
@@ -100,3 +114,5 @@ pub ruleset look_rules = (targets_of-words)
 pub ruleset pin_rules = (pic_owner, ioapic_owner)
 
 pub ruleset copy_rules = (same_table)
+
+pub ruleset sound_rules = (sends_to_routes)

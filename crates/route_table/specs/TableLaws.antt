@@ -105,6 +105,10 @@ pub targets_of-words : (words : List ℕ) (gsi : ℕ) → gsi < 4096 → targets
 unfolding table_in
 targets_of-words words gsi below = targets_of-table_below (route_at words) gsi below
 
+pub targets_past-words : (words : List ℕ) (gsi : ℕ) → 4096 ≤ gsi → targets_of (table_in words) gsi ≡ no_targets
+unfolding table_in
+targets_past-words words gsi past = targets_of-past (route_at words) gsi past
+
 pub targets_of-rows : (rows : List Row) (gsi : ℕ) → gsi < 4096 → targets_of (table_of rows) gsi ≡ targets_by rows gsi
 unfolding table_of
 targets_of-rows rows gsi below = targets_of-table_below (targets_by rows) gsi below

@@ -1,5 +1,6 @@
 //! The routing table.
-ghost use Rattle.std.specs.Prelude.{◌≡◌, ◌<◌, IfOk, OnErr, OnOk, MatchResult, IfSome, IsTrue, Some, None, []};
+ghost use Rattle.std.specs.Prelude.{◌≡◌, ℕ, List, ◌<◌, IfOk, OnErr, OnOk, MatchResult, IfSome, IsTrue, Some, None, []};
+ghost use Rattle.irq_base.specs.declared.call.Row.{Row as RouteRow};
 ghost use Rattle.route_table.specs.Words.{is_route};
 ghost use Rattle.route_table.specs.Rows.{refusal_of, table_of, targets_of};
 ghost use Rattle.route_table.specs.Pins.{IsPin, gsi_of};
@@ -134,6 +135,16 @@ impl Table {
             Pin::Pic(number) => gsi_told(self.pics[number as usize]),
             Pin::Ioapic(number) => gsi_told(self.ioapics[number as usize]),
         }
+    }
+
+    /// A law: the table is that of rows that keep the rules, and each GSI goes to pins that the chips have or to a message
+    /// alone whose address is one of messages, or nowhere.
+    #[tactic(auto, using(crate::specs::Filled::sound_rules))]
+    pub fn keeps_the_rules(&self)
+        ensures made { (rows : List RouteRow) × (refusal_of rows ≡ None) × (self.now ≡ table_of rows) }
+        ensures routes { (gsi : ℕ) → IsTrue (is_route (targets_of self.now gsi)) }
+    {
+        let _ = &self.words;
     }
 
     /// Makes the table equal to the other. It takes no memory.

@@ -1,0 +1,353 @@
+-- What holds along every legal history.
+use Rattle.std.specs.Prelude.{◌≡◌, ◌≢◌, ℕ, ◌+◌, Bool, true, false, not, ◌&&◌, nat_eq, min, if◌then◌else◌, ◌⊎◌, List, [], ◌∷◌, ◌++◌, slice_get, option_map, All, IsTrue, Some, None}
+use Rattle.std.specs.List.{Contains, list_any}
+use Rattle.std.specs.declared.option.Option.{Option}
+use Rattle.std.specs.FinSet as set
+use Rattle.irq_bits.specs.Members.{Numbers}
+use Rattle.irq_base.specs.declared.call.Call.{Call}
+use Rattle.irq_base.specs.declared.call.Call.TheVariants.{Line, Msi, Write, Assign, Deassign, Tick, TickMode, Ack}
+use Rattle.irq_base.specs.declared.call.Caller.{Caller}
+use Rattle.irq_base.specs.declared.call.Caller.TheVariants.{Device, Cpu}
+use Rattle.irq_base.specs.declared.event.Event.{Event}
+use Rattle.irq_base.specs.declared.event.Event.TheVariants.{Acked, Resampled, Watched, Rang, Injected}
+use Rattle.irq_base.specs.declared.event.Pin.{Pin}
+use Rattle.irq_base.specs.declared.event.Pin.TheVariants as pins
+use Rattle.irq_base.specs.declared.lists.Entry.{Entry}
+use Rattle.irq_base.specs.declared.message.Message.{Message}
+use Rattle.irq_base.specs.declared.message.MsiWord.{MsiWord}
+use Rattle.irq_base.specs.declared.message.Source.TheVariants.{Resample}
+use Rattle.irq_base.specs.declared.message.Targets.{Targets}
+use Rattle.irq_base.specs.declared.refusal.Refusal.{Refusal}
+use Rattle.irq_base.specs.declared.reply.Reply.{Reply}
+use Rattle.irq_base.specs.declared.reply.Reply.TheVariants.{Signal, Done, Removed, Vector, Nmi, Refused}
+use Rattle.irq_base.specs.declared.shape.Part.{Part}
+use Rattle.irq_base.specs.declared.shape.Part.TheVariants.{Counters, Lapic}
+use Rattle.irq_base.specs.declared.shape.Shape.{Shape}
+use Rattle.irq_base.specs.declared.status.Cause.{Cause}
+use Rattle.irq_base.specs.declared.status.Cause.TheVariants.{Masked, NoProcessor, BadVector, Mode}
+use Rattle.irq_base.specs.declared.status.Status.{Status}
+use Rattle.irq_base.specs.declared.status.Status.TheVariants.{Coalesced, Ignored}
+use Rattle.pic_8259a.specs.declared.chip.PinOutcome.TheVariants as outcomes
+use Rattle.pic_8259a.specs.Pair.{pin_outcome}
+use Rattle.ioapic_82093aa.specs.declared.ioapic.Raise.{Raise}
+use Rattle.ioapic_82093aa.specs.declared.ioapic.Raise.TheVariants as raises
+use Rattle.ioapic_82093aa.specs.Pins.{raise_of}
+use Rattle.lapic.specs.Messages.{is_nmi, is_taken}
+use Rattle.msi_decode.specs.Messages.{message_in}
+use Rattle.source_levels.specs.Holds.{Holds, hold}
+use Rattle.event_counter.specs.Counters.{signalled_all}
+use Rattle.irqfd_set.specs.Rows.{has_resampler}
+use Rattle.resampler.specs.Resample.{resample_events}
+use Rattle.route_table.specs.Pins.{gsi_of}
+use Rattle.tick_reinject.specs.Ticks.{in_mode}
+use Rattle.board_model.specs.Registry.{RegistryPart}
+use Rattle.board_model.specs.Board.{Board, part_of, with_part}
+use Rattle.board_model.specs.Chips.{pair_of, ioapic_of}
+use Rattle.board_model.specs.Routing.{Routing, routing_of_registry}
+use Rattle.board_model.specs.Statuses.{TargetAnswer, newly_taken, stood_already, no_effect, first_cause}
+use Rattle.board_model.specs.Plan.{Plan, done, look, put, tell, answer, choose}
+use Rattle.board_model.specs.Run.{Sending, Wishes, next_wish, later_wishes}
+use Rattle.board_model.specs.Following.{reached}
+use Rattle.board_raise.specs.Named.{Processor, MayReach}
+use Rattle.board_raise.specs.Send.{is_illegal}
+use Rattle.board_raise.specs.Signal.{pic_answer}
+use Rattle.board_raise.specs.Laws.{named_on, has_request_on}
+use Rattle.board_step.specs.Step.{plan_on, Step}
+use Rattle.board_step.specs.History.{opening, Leads, wishes_shown, next_board, board_after}
+
+-- a history of a board: entries, one entry, and the entries after it; the board before it and the board after it
+pub record Point (shape : Shape) : Type 0 where
+  pub before : List Entry
+  pub entry : Entry
+  pub after : List Entry
+
+-- the board on which the entry of a point was made
+abbrev pub board_at : (shape : Shape) → Point shape → Board
+board_at shape p = board_after (opening shape) p.before
+
+-- the board that it left
+abbrev pub board_left : (shape : Shape) → Point shape → Board
+board_left shape p = next_board (board_at shape p) p.entry
+
+-- a point of a history that is legal for the shape
+abbrev pub IsLegal : (shape : Shape) → Point shape → Type 0
+IsLegal shape p = (last : Board) × Leads (opening shape) (p.before ++ p.entry ∷ p.after) last
+
+-- ---- requests stay pending until they are taken
+
+-- the sendings of a run, each with the board on which it was made
+abbrev pub sendings_of : {A : Type 0} → Plan A → Board → Wishes → List (Board × Sending)
+sendings_of (done a) b ws = []
+sendings_of (look p k) b ws = sendings_of (k (part_of b p)) b ws
+sendings_of (put p v rest) b ws = sendings_of rest (with_part b p v) ws
+sendings_of (tell x rest) b ws = sendings_of rest b ws
+sendings_of (answer r rest) b ws = sendings_of rest b ws
+sendings_of (choose m about g k) b ws = (b, record { heading = m; sent = g (next_wish ws) }) ∷ sendings_of (k (g (next_wish ws))) b (later_wishes ws)
+
+-- whether a reply takes the request of a message: its vector, or an NMI
+abbrev pub takes_by : Message → Reply → Bool
+takes_by message (Vector vector) = not (is_nmi message.mode) && nat_eq vector message.vector
+takes_by message Nmi = is_nmi message.mode
+takes_by message _ = false
+
+-- whether the caller is that processor
+abbrev pub is_processor : ℕ → Caller → Bool
+is_processor n (Cpu m) = nat_eq m n
+is_processor n (Device d) = false
+
+-- whether the call asks for the next interrupt
+abbrev pub is_ack : Call → Bool
+is_ack Ack = true
+is_ack _ = false
+
+-- whether by this entry that processor takes the request of a message
+abbrev pub takes : ℕ → Message → Entry → Bool
+takes n message e = is_ack e.call && (is_processor n e.caller && takes_by message e.reply)
+
+-- a processor has the request of a message after these entries, or took it in one of them
+abbrev pub IsPendingOrTaken : Board → ℕ → Message → List Entry → Type 0
+IsPendingOrTaken left n message es = (has_request_on (board_after left es) message n ≡ true) ⊎ IsTrue (list_any (takes n message) es)
+
+-- a sending that was made on b: it reached a set that it may reach, and each processor of it has the request until it takes
+-- it, however many of the later entries are looked at
+pub record SendingStands (shape : Shape) (left : Board) (later : List Entry) (b : Board) (s : Sending) : Type 0 where
+  pub chosen : MayReach s.heading.message.mode (named_on b shape.cpus s.heading.message s.heading.from) (reached s.sent)
+  pub pending : (n : ℕ) → set.contains (reached s.sent) n ≡ true → (es more : List Entry) → later ≡ es ++ more → IsPendingOrTaken left n s.heading.message es
+
+-- each sending of each entry of a legal history stands
+abbrev pub RequestsStayPending : Type 0
+RequestsStayPending = (shape : Shape) (p : Point shape) → IsLegal shape p →
+    All (λ (made : Board × Sending). SendingStands shape (board_left shape p) p.after made.0 made.1)
+    (sendings_of (plan_on (board_at shape p) p.entry.caller p.entry.call) (board_at shape p) (wishes_shown p.entry))
+
+-- ---- coalesced and ignored change no request
+
+-- the message target alone
+abbrev pub message_target : ℕ → ℕ → Targets
+message_target address payload = record { pic = None; ioapic = None; msi = Some (record { address = address; payload = payload }) }
+
+-- the targets of a call that is answered with a status
+abbrev pub signal_targets : Routing → Shape → Call → Option Targets
+signal_targets routing shape (Line gsi line high) = Some (routing.targets gsi)
+signal_targets routing shape (Msi address payload) = Some (message_target address payload)
+signal_targets routing shape (Write counter n) = option_map (λ trigger. routing.targets trigger.gsi) (routing.trigger counter)
+signal_targets routing shape Tick = Some (routing.targets shape.tick)
+signal_targets routing shape _ = None
+
+-- the message that a pin of the I/O APIC sends, if it sends one
+abbrev pub message_raised : Raise → Option Message
+message_raised (raises.Send message) = Some message
+message_raised _ = None
+
+-- the message that goes to the local APICs, if one does
+abbrev pub message_on : Board → Option ℕ → Option MsiWord → Option Message
+message_on b (Some pin) msi = message_raised (raise_of (ioapic_of b.ioapic) pin)
+message_on b None (Some word) = Some (message_in word.address word.payload)
+message_on b None None = None
+
+-- the line of the 8259A pin was high, or its request stood
+pub record PicStood (b : Board) (targets : Targets) : Type 0 where
+  pub pin : ℕ
+  pub there : targets.pic ≡ Some pin
+  pub stood : pin_outcome (pair_of b.pic) pin true ≡ outcomes.Stood
+
+-- the line of the I/O APIC pin was high, or its remote IRR was set
+pub record IoapicStood (b : Board) (targets : Targets) : Type 0 where
+  pub pin : ℕ
+  pub there : targets.ioapic ≡ Some pin
+  pub stood : raise_of (ioapic_of b.ioapic) pin ≡ raises.Stood
+
+-- a processor that the message reached had the request already
+pub record RequestStood (b : Board) (targets : Targets) (stood : Numbers) : Type 0 where
+  pub message : Message
+  pub sent : message_on b targets.ioapic targets.msi ≡ Some message
+  pub processor : ℕ
+  pub reached : set.contains stood processor ≡ true
+  pub had : has_request_on b message processor ≡ true
+
+-- what the 8259A pin answers, if there is one
+abbrev pub pic_answer_on : Board → Option ℕ → Option TargetAnswer
+pic_answer_on b None = None
+pic_answer_on b (Some pin) = Some (pic_answer (pin_outcome (pair_of b.pic) pin true))
+
+-- what a message answers that names these processors, but for whether its request stood
+abbrev pub message_answer_by : Message → List Processor → TargetAnswer
+message_answer_by message [] = no_effect NoProcessor
+message_answer_by message (p ∷ ps) = if is_illegal message then no_effect BadVector else newly_taken
+
+-- the same, by its mode
+abbrev pub message_answer_on : Board → ℕ → Message → TargetAnswer
+message_answer_on b cpus message = if not (is_taken message.mode) then no_effect Mode else message_answer_by message (named_on b cpus message None)
+
+-- what a pin of the I/O APIC answers
+abbrev pub raise_answer_on : Board → ℕ → Raise → TargetAnswer
+raise_answer_on b cpus raises.Masked = no_effect Masked
+raise_answer_on b cpus raises.Stood = stood_already
+raise_answer_on b cpus (raises.Send message) = message_answer_on b cpus message
+
+-- what the other target answers, if there is one
+abbrev pub other_answer_on : Board → ℕ → Option ℕ → Option MsiWord → Option TargetAnswer
+other_answer_on b cpus (Some pin) msi = Some (raise_answer_on b cpus (raise_of (ioapic_of b.ioapic) pin))
+other_answer_on b cpus None (Some word) = Some (message_answer_on b cpus (message_in word.address word.payload))
+other_answer_on b cpus None None = None
+
+-- the cause why a signal to these targets has no effect: the first in the order 8259A, I/O APIC, message
+abbrev pub cause_on : Board → Targets → Cause
+cause_on b targets = first_cause (pic_answer_on b targets.pic) (other_answer_on b b.shape.cpus targets.ioapic targets.msi)
+
+-- what a status says of its targets: Coalesced, that at some target the line was high, the request stood or remote IRR was
+-- set; Ignored, the cause
+abbrev pub IsSaidOf : Board → Targets → Status → Type 0
+IsSaidOf b targets (Coalesced stood) = PicStood b targets ⊎ (IoapicStood b targets ⊎ RequestStood b targets stood)
+IsSaidOf b targets (Ignored cause) = cause ≡ cause_on b targets
+IsSaidOf b targets _ = Unit {0}
+
+-- a status without effect
+abbrev pub is_without_effect : Status → Bool
+is_without_effect (Coalesced stood) = true
+is_without_effect (Ignored cause) = true
+is_without_effect _ = false
+
+-- no processor's requests changed
+abbrev pub SameRequests : Board → Board → Type 0
+SameRequests b c = (n : ℕ) → (part_of c (Lapic n)).irr ≡ (part_of b (Lapic n)).irr
+
+-- a status without effect that is replied: it is said of the targets of the call, and every IRR is as before
+pub record ChangesNoRequest (b : Board) (e : Entry) (c : Board) (status : Status) : Type 0 where
+  pub targets : Targets
+  pub signalled : signal_targets (routing_of_registry b.registry b.shape.tick) b.shape e.call ≡ Some targets
+  pub said : IsSaidOf b targets status
+  pub requests : SameRequests b c
+
+-- so it is in each step
+abbrev pub CoalescedAndIgnoredChangeNoRequest : Type 0
+CoalescedAndIgnoredChangeNoRequest = (b : Board) (e : Entry) (c : Board) (status : Status) → Step b e c → e.reply ≡ Signal status → is_without_effect status ≡ true → ChangesNoRequest b e c status
+
+-- ---- each acknowledge resamples once, in order
+
+-- the counter that an event tells to be signalled by an acknowledge
+abbrev pub counter_told : Event → List ℕ
+counter_told (Resampled counter) = counter ∷ []
+counter_told (Watched counter) = counter ∷ []
+counter_told _ = []
+
+-- the counters that events tell, in order
+abbrev pub counters_told : List Event → List ℕ
+counters_told [] = []
+counters_told (event ∷ events) = counter_told event ++ counters_told events
+
+-- Resample holds no pin of the GSI; `chip` makes a pin of its number
+abbrev pub IsReleased : RegistryPart → ℕ → Holds → (ℕ → Pin) → Type 0
+IsReleased registry gsi holds chip = (pin : ℕ) → gsi_of registry.table (chip pin) ≡ Some gsi → set.contains holds (hold pin Resample) ≡ false
+
+-- after the Acked of a GSI with resamplers comes one Resampled for each of them, in order; each event adds one to its counter,
+-- a full one staying full; and after the entry Resample holds no pin of the GSI
+pub record ResamplesOnce (b : Board) (e : Entry) (c : Board) (gsi : ℕ) (after : List Event) : Type 0 where
+  pub more : List Event
+  pub events : after ≡ resample_events b.registry.irqfds gsi ++ more
+  pub counts : c.counters ≡ signalled_all b.counters (counters_told e.events)
+  pub pic : IsReleased b.registry gsi c.pic.holds pins.Pic
+  pub ioapic : IsReleased b.registry gsi c.ioapic.holds pins.Ioapic
+
+-- so it is of each Acked in a legal history
+abbrev pub EachAcknowledgeResamplesOnce : Type 0
+EachAcknowledgeResamplesOnce = (shape : Shape) (p : Point shape) → IsLegal shape p → (before after : List Event) (pin : Pin) (gsi : ℕ) → p.entry.events ≡ before ++ Acked pin (Some gsi) ∷ after → has_resampler (board_at shape p).registry.irqfds gsi ≡ true → ResamplesOnce (board_at shape p) p.entry (board_left shape p) gsi after
+
+-- ---- no signal of a deassigned trigger
+
+-- an entry that ends the irqfd of a trigger
+pub record EndsTrigger (trigger : ℕ) (e : Entry) : Type 0 where
+  pub gsi : ℕ
+  pub call : e.call ≡ Deassign trigger gsi
+  pub reply : e.reply ≡ Removed 1
+
+-- an entry that makes an irqfd of the trigger
+pub record MakesTrigger (trigger : ℕ) (e : Entry) : Type 0 where
+  pub gsi : ℕ
+  pub resample : Option ℕ
+  pub call : e.call ≡ Assign trigger gsi resample
+  pub reply : e.reply ≡ Done
+
+-- no part changed but the count of that counter
+pub record ChangesCountAlone (counter : ℕ) (b c : Board) : Type 0 where
+  pub parts : (q : Part) → q ≢ Counters → part_of c q ≡ part_of b q
+  pub counts : (k : ℕ) → k ≢ counter → slice_get c.counters k ≡ slice_get b.counters k
+
+-- a call without a signal: it is refused, or done, and changes the count of that counter alone
+pub record SignalsNothing (counter : ℕ) (b : Board) (e : Entry) (c : Board) : Type 0 where
+  pub reply : (e.reply ≡ Done) ⊎ ((refusal : Refusal) × (e.reply ≡ Refused refusal))
+  pub changes : ChangesCountAlone counter b c
+
+-- from the end of an irqfd to the next of its trigger, a write of its counter tells no event and signals nothing, and a guest
+-- write that rings it tells that alone
+pub record SignalsNoMore (counter : ℕ) (b : Board) (e : Entry) (c : Board) : Type 0 where
+  pub written : (n : ℕ) → e.call ≡ Write counter n → (e.events ≡ []) × SignalsNothing counter b e c
+  pub rung : Contains e.events (Rang counter) → (e.events ≡ Rang counter ∷ []) × SignalsNothing counter b e c
+
+-- so it is in each legal history
+abbrev pub NoSignalOfDeassignedTrigger : Type 0
+NoSignalOfDeassignedTrigger = (shape : Shape) (p : Point shape) → IsLegal shape p → (early between : List Entry) (end_ : Entry) (trigger : ℕ) → p.before ≡ early ++ end_ ∷ between → EndsTrigger trigger end_ →
+    ((e : Entry) → Contains between e → MakesTrigger trigger e → ⊥) → SignalsNoMore trigger (board_at shape p) p.entry (board_left shape p)
+
+-- ---- ticks are conserved
+
+-- one for a Tick, none for another call
+abbrev pub is_tick : Call → ℕ
+is_tick Tick = 1
+is_tick _ = 0
+
+-- how many Tick calls there are
+abbrev pub ticks_in : List Entry → ℕ
+ticks_in [] = 0
+ticks_in (e ∷ es) = is_tick e.call + ticks_in es
+
+-- one for an acknowledge of a pin of this GSI
+abbrev pub is_ack_of : ℕ → Event → ℕ
+is_ack_of gsi (Acked pin (Some g)) = if nat_eq g gsi then 1 else 0
+is_ack_of gsi _ = 0
+
+-- how many acknowledges of its pins there are
+abbrev pub acks_in : ℕ → List Event → ℕ
+acks_in gsi [] = 0
+acks_in gsi (event ∷ events) = is_ack_of gsi event + acks_in gsi events
+
+-- how many acknowledges of an entry find a tick pending: each takes one off
+abbrev pub ticks_taken_by : Board → Entry → ℕ
+ticks_taken_by b e = min (acks_in b.shape.tick e.events) b.tick.pending
+
+-- how many do along a history
+abbrev pub ticks_taken : Board → List Entry → ℕ
+ticks_taken b [] = 0
+ticks_taken b (e ∷ es) = ticks_taken_by b e + ticks_taken (next_board b e) es
+
+-- whether a call sets the mode of ticks
+abbrev pub is_tick_mode : Call → Bool
+is_tick_mode (TickMode reinject) = true
+is_tick_mode _ = false
+
+-- whether an entry does
+abbrev pub sets_mode : Entry → Bool
+sets_mode e = is_tick_mode e.call
+
+-- from the start of reinjection on, and until the mode is set again, the ticks are those that are pending and those that
+-- acknowledges took
+abbrev pub TicksAreConserved : Type 0
+TicksAreConserved = (b : Board) (es : List Entry) (c : Board) → b.tick ≡ in_mode true → Leads b es c → list_any sets_mode es ≡ false → ticks_in es ≡ c.tick.pending + ticks_taken b es
+
+-- whether a reply is a status
+abbrev pub is_signal : Reply → Bool
+is_signal (Signal status) = true
+is_signal _ = false
+
+-- a tick is injected by a Tick under reinjection only where the state was free
+abbrev pub TicksInjectFree : Type 0
+TicksInjectFree = (b : Board) (e : Entry) (c : Board) → Step b e c → e.call ≡ Tick → b.tick.reinjects ≡ true → is_signal e.reply ≡ true → b.tick.free ≡ true
+
+-- whether an event is an acknowledge of a pin of this GSI
+abbrev pub is_acked_of : ℕ → Event → Bool
+is_acked_of gsi event = nat_eq (is_ack_of gsi event) 1
+
+-- in an entry that rings no ioeventfd and makes no irqfd, each injection is of the tick, by an acknowledge of its GSI before it
+abbrev pub OtherInjectionsFollowAcknowledges : Type 0
+OtherInjectionsFollowAcknowledges = (b : Board) (e : Entry) (c : Board) → Step b e c → ((counter : ℕ) → Contains e.events (Rang counter) → ⊥) → ((trigger gsi : ℕ) (resample : Option ℕ) → e.call ≡ Assign trigger gsi resample → ⊥) →
+    (before after : List Event) (gsi : ℕ) (status : Status) → e.events ≡ before ++ Injected gsi status ∷ after → (gsi ≡ b.shape.tick) × IsTrue (list_any (is_acked_of gsi) before)

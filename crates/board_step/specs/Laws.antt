@@ -1,0 +1,106 @@
+-- What holds of every step.
+use Rattle.std.specs.Prelude.{◌≡◌, ◌≤◌, true, false, List, [], ◌∷◌, length, Some, None}
+use Rattle.irq_base.specs.Callers.{is_allowed}
+use Rattle.irq_base.specs.declared.call.Call.{Call}
+use Rattle.irq_base.specs.declared.call.Caller.{Caller}
+use Rattle.irq_base.specs.declared.event.Event.{Event}
+use Rattle.irq_base.specs.declared.lists.Entry.{Entry}
+use Rattle.irq_base.specs.declared.refusal.Refusal.{Refusal}
+use Rattle.irq_base.specs.declared.reply.Reply.{Reply}
+use Rattle.irq_base.specs.declared.reply.Reply.TheVariants.{Refused}
+use Rattle.irq_base.specs.declared.shape.Part.{Part}
+use Rattle.irq_base.specs.declared.shape.Shape.{Shape}
+use Rattle.board_model.specs.Board.{Board, part_of}
+use Rattle.board_model.specs.Published.{published}
+use Rattle.board_model.specs.Following.{IsSteady}
+use Rattle.board_model.specs.Run.{Wishes, reaches as plan_reaches, run}
+use Rattle.board_raise.specs.Fit.{InLimits}
+use Rattle.board_step.specs.Step.{refusal_of, would_publish, spent_of, plan_on, Step}
+use Rattle.board_step.specs.Reach.{reach}
+use Rattle.board_step.specs.Sound.{IsSound}
+use Rattle.board_step.specs.History.{opening, Leads, board_after}
+
+-- ---- a step leads to one board
+
+-- an entry leads from a board to one board at most
+abbrev pub LeadsToOne : Type 0
+LeadsToOne = (b : Board) (e : Entry) (c d : Board) → Step b e c → Step b e d → c ≡ d
+
+-- a history leads from a board to one board at most, which is that of its entries
+abbrev pub BoardAfterIsReached : Type 0
+BoardAfterIsReached = (b : Board) (es : List Entry) (c : Board) → Leads b es c → board_after b es ≡ c
+
+-- the choices of a call can be followed, whatever it does
+abbrev pub CallsSteadily : Type 0
+CallsSteadily = (b : Board) (caller : Caller) (call : Call) → IsSteady (plan_on b caller call)
+
+-- ---- a call always answers
+
+-- some reply, and at most 560 events, are those of a step
+pub record HasStep (b : Board) (caller : Caller) (call : Call) : Type 0 where
+  pub reply : Reply
+  pub events : List Event
+  pub next : Board
+  pub step : Step b (record { caller = caller; call = call; reply = reply; events = events }) next
+  pub bounded : length events ≤ 560
+
+-- each call that is allowed to its caller, and that no limit bars, has a step
+abbrev pub AlwaysAnswers : Type 0
+AlwaysAnswers = (b : Board) (caller : Caller) (call : Call) → IsSound b → is_allowed caller call b.shape ≡ true → spent_of b call ≡ None → HasStep b caller call
+
+-- ---- a step depends on its reach
+
+-- the table of what a call reaches says which parts its plan looks at or writes, under all wishes
+abbrev pub ReachIsTable : Type 0
+ReachIsTable = (b : Board) (caller : Caller) (call : Call) (ws : Wishes) (q : Part) → plan_reaches (plan_on b caller call) b ws q ≡ reach b caller call q
+
+-- a step changes no part outside its reach
+abbrev pub StaysOutsideReach : Type 0
+StaysOutsideReach = (b : Board) (e : Entry) (c : Board) (q : Part) → Step b e c → reach b e.caller e.call q ≡ false → part_of c q ≡ part_of b q
+
+-- two boards of one shape that publish the same words, and agree on what a call of that caller reaches
+pub record AgreesForCall (b d : Board) (caller : Caller) (call : Call) : Type 0 where
+  pub shape : b.shape ≡ d.shape
+  pub words : published b.registry b.shape.tick ≡ published d.registry d.shape.tick
+  pub parts : (q : Part) → reach b caller call q ≡ true → part_of b q ≡ part_of d q
+
+-- an entry that leads from b to c is a step from d too, with the same reach, and the parts of the reach are the same after it
+pub record StepsAlike (b d : Board) (e : Entry) (c : Board) : Type 0 where
+  pub reaches : (q : Part) → reach d e.caller e.call q ≡ reach b e.caller e.call q
+  pub next : Board
+  pub step : Step d e next
+  pub parts : (q : Part) → reach b e.caller e.call q ≡ true → part_of next q ≡ part_of c q
+
+-- a step depends on its reach and the published words alone
+abbrev pub DependsOnReach : Type 0
+DependsOnReach = (b d : Board) (e : Entry) (c : Board) → IsSound b → IsSound d → AgreesForCall b d e.caller e.call → spent_of d e.call ≡ None → Step b e c → StepsAlike b d e c
+
+-- a step that is no publication leaves the published words
+abbrev pub WordsStay : Type 0
+WordsStay = (b : Board) (e : Entry) (c : Board) → Step b e c → would_publish b e.call ≡ false → published c.registry c.shape.tick ≡ published b.registry b.shape.tick
+
+-- ---- refusals
+
+-- a call that is refused, and no other, answers its refusal; it tells no event and changes nothing
+pub record RefusesRightly (b : Board) (caller : Caller) (call : Call) (ws : Wishes) (refusal : Refusal) : Type 0 where
+  pub answers : (run (plan_on b caller call) b ws).log.answers ≡ Refused refusal ∷ []
+  pub events : (run (plan_on b caller call) b ws).log.events ≡ []
+  pub board : (run (plan_on b caller call) b ws).board ≡ b
+
+-- a refusal of a board is the answer of its call
+abbrev pub RefusesFirst : Type 0
+RefusesFirst = (b : Board) (caller : Caller) (call : Call) (ws : Wishes) (refusal : Refusal) → refusal_of b call ≡ Some refusal → RefusesRightly b caller call ws refusal
+
+-- an answer that is a refusal is that of the board
+abbrev pub RefusedRightly : Type 0
+RefusedRightly = (b : Board) (e : Entry) (c : Board) (refusal : Refusal) → Step b e c → e.reply ≡ Refused refusal → refusal_of b e.call ≡ Some refusal
+
+-- ---- sound boards
+
+-- a board at power-on is sound where its shape is in limits
+abbrev pub OpeningIsSound : Type 0
+OpeningIsSound = (shape : Shape) → InLimits shape → IsSound (opening shape)
+
+-- a step from a sound board leads to one
+abbrev pub StepsKeepSound : Type 0
+StepsKeepSound = (b : Board) (e : Entry) (c : Board) → IsSound b → Step b e c → IsSound c

@@ -1,0 +1,12 @@
+pub mod Refusals
+pub mod Registrations
+pub mod Ticks
+pub mod Processors
+pub mod Accesses
+pub mod Calls
+pub mod Step
+pub mod Reach
+pub mod Sound
+pub mod History
+pub mod Laws
+pub mod HistoryLaws

@@ -1,0 +1,2 @@
+//! What each call of a board does, as the one-thread board does it in one step, and what a legal history of calls is.
+#![tactic(auto)]
