@@ -1,2 +1,6 @@
 //! What each call of a board does, as the one-thread board does it in one step, and what a legal history of calls is.
 #![tactic(auto)]
+
+mod laws;
+
+pub use laws::leads_to_one;
