@@ -5,3 +5,5 @@ pub mod Reaching
 pub mod SignalReach
 pub mod Illegal
 pub mod Steady
+pub mod Manner
+pub mod SignalSteady
