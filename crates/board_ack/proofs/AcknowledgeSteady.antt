@@ -81,7 +81,7 @@ module _ (w : Manner) where
   -- ---- where sendings show in events
 
   module _ (there : w.replies ≡ false) where
-    in_event : (about : About) → shows_there (record w { replies = false }) about ≡ true → shows_there w about ≡ true
+    pub in_event : (about : About) → shows_there (record w { replies = false }) about ≡ true → shows_there w about ≡ true
     in_event about h = ap (λ t. shows_there (record w { replies = t }) about) there ∙ h
 
     pub resend_keeps : (cpus pin : ℕ) (message : Option Message) → Keeps w (resend cpus pin message)

@@ -3,4 +3,4 @@
 
 mod laws;
 
-pub use laws::leads_to_one;
+pub use laws::{board_after_is_reached, calls_steadily, leads_to_one};
