@@ -83,9 +83,14 @@ pub record Lets (w : Manner) (call : Call) : Type 0 where
   pub writes : (not (writes_in call) || w.writes) ≡ true
   pub refuses : (not (refuses_in call) || w.refuses) ≡ true
 
+-- a manner that may do all it can lets every call do so
+pub or_true : (t : Bool) → (t || true) ≡ true
+or_true true = refl
+or_true false = refl
+
 module _ (w : Manner) where
   -- an answer at the end
-  ends : (r : Reply) → sets_replied r ≡ nobody → is_refusal r ≡ false → Keeps w (reply r)
+  pub ends : (r : Reply) → sets_replied r ≡ nobody → is_refusal r ≡ false → Keeps w (reply r)
   ends r sets accepts = (record { sets = sets; accepts = ap (λ t. t && not w.refuses) accepts }, tt)
 
   refused_keeps : (refusal : Option Refusal) (plan : Plan (Unit {0})) → w.refuses ≡ true → Keeps w plan → Keeps w (unless_refused refusal plan)

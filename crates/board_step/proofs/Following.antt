@@ -1,5 +1,5 @@
 -- The choices of calls can be followed by what an entry shows.
-use Rattle.std.proofs.Common.{◌≡◌, Bool, true, false, not, ◌||◌, List, [], ◌∷◌, ◌++◌, refl, sym, ap, ◌∙◌, append-nil}
+use Rattle.std.proofs.Common.{◌≡◌, true, not, List, [], ◌∷◌, ◌++◌, refl, sym, ap, ◌∙◌, append-nil}
 use Rattle.irq_base.specs.declared.call.Call.{Call}
 use Rattle.irq_base.specs.declared.call.Caller.{Caller}
 use Rattle.irq_base.specs.declared.lists.Entry.{Entry}
@@ -10,16 +10,12 @@ use Rattle.board_model.proofs.Followed.{shown_followed}
 use Rattle.board_raise.proofs.Manner.{Manner, Keeps, steady_of}
 use Rattle.board_step.specs.Step.{plan_on, outcome_of, counted, Step}
 use Rattle.board_step.specs.History.{wish_replied, wishes_told, wishes_shown, next_board, Leads, board_after}
-use Rattle.board_step.proofs.CallManner.{replies_in, writes_in, refuses_in, call_keeps}
+use Rattle.board_step.proofs.CallManner.{replies_in, writes_in, refuses_in, call_keeps, or_true}
 use Rattle.board_step.proofs.Shown.{wishes_replied, all_shown}
 
 -- the manner of a call that may do all it can
 abbrev free : Call → Manner
 free call = record { replies = replies_in call; writes = true; refuses = true }
-
-or_true : (t : Bool) → (t || true) ≡ true
-or_true true = refl
-or_true false = refl
 
 keeps_free : (b : Board) (caller : Caller) (call : Call) → Keeps (free call) (plan_on b caller call)
 keeps_free b caller call = call_keeps (free call) (routing_of_registry b.registry b.shape.tick) b.shape caller call refl (record { replies = refl; writes = or_true (not (writes_in call)); refuses = or_true (not (refuses_in call)) })

@@ -1,6 +1,6 @@
 //! The laws of steps: functions with no body, the contract of each being a law.
 
-ghost use Rattle.board_step.specs.Laws.{LeadsToOne, CallsSteadily, BoardAfterIsReached};
+ghost use Rattle.board_step.specs.Laws.{LeadsToOne, CallsSteadily, BoardAfterIsReached, RefusesFirst, RefusedRightly};
 
 /// A law: an entry leads from a board to one board at most.
 pub fn leads_to_one()
@@ -15,4 +15,14 @@ pub fn calls_steadily()
 /// A law: a history leads from a board to one board at most, and that is the one which its entries tell.
 pub fn board_after_is_reached()
     ensures { BoardAfterIsReached }
+{}
+
+/// A law: a call that the board refuses answers that refusal alone, tells nothing and changes nothing, whatever is wished.
+pub fn refuses_first()
+    ensures { RefusesFirst }
+{}
+
+/// A law: a call that answers a refusal is one that the board refuses, for that reason.
+pub fn refused_rightly()
+    ensures { RefusedRightly }
 {}
