@@ -1,6 +1,6 @@
 //! The laws of steps: functions with no body, the contract of each being a law.
 
-ghost use Rattle.board_step.specs.Laws.{LeadsToOne, CallsSteadily, BoardAfterIsReached, RefusesFirst, RefusedRightly};
+ghost use Rattle.board_step.specs.Laws.{LeadsToOne, CallsSteadily, BoardAfterIsReached, RefusesFirst, RefusedRightly, WordsStay};
 
 /// A law: an entry leads from a board to one board at most.
 pub fn leads_to_one()
@@ -25,4 +25,9 @@ pub fn refuses_first()
 /// A law: a call that answers a refusal is one that the board refuses, for that reason.
 pub fn refused_rightly()
     ensures { RefusedRightly }
+{}
+
+/// A law: a step that is no publication leaves the published words.
+pub fn words_stay()
+    ensures { WordsStay }
 {}

@@ -9,4 +9,5 @@ mod laws;
 
 pub use laws::{
     board_after_is_reached, calls_steadily, leads_to_one, refused_rightly, refuses_first,
+    words_stay,
 };
