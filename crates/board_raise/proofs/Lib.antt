@@ -14,3 +14,5 @@ pub mod Delivered
 pub mod Rows
 pub mod OnHand
 pub mod Telling
+pub mod Manner
+pub mod SignalSteady

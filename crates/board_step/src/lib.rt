@@ -1,2 +1,13 @@
 //! What each call of a board does, as the one-thread board does it in one step, and what a legal history of calls is.
+//!
+//! Reading order of the definitions: `Refusals` (why a call is refused), `Registrations`, `Ticks`, `Processors` and `Accesses`
+//! (what each call does), `Calls` (all of them), `Step` (one call is one step), `Reach`, `Sound`, `History`, and then what holds
+//! of every step: `Laws`.
 #![tactic(auto)]
+
+mod laws;
+
+pub use laws::{
+    board_after_is_reached, calls_steadily, leads_to_one, refused_rightly, refuses_first,
+    words_stay,
+};
