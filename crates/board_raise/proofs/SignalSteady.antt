@@ -33,7 +33,7 @@ use Rattle.board_raise.specs.Send.{show, ignore, reached_by, see_each, parted, i
 use Rattle.board_raise.specs.Signal.{raise_pic, answer_shown, ioapic_answered, accept_pin, is_accepted, raise_other, raise, let_go_pic, let_go_ioapic, let_go, lowered_status, lower, let_go_after, inject}
 use Rattle.board_raise.proofs.Manner.{Manner, shows_there, Keeps, keeps_bind, keeps_bind_steady}
 use Rattle.board_raise.proofs.Choice.{wishes_choose_exactly}
-use Rattle.board_raise.proofs.Sending.{all_reached}
+use Rattle.board_raise.proofs.SendExactly.{all_reached}
 use Rattle.board_raise.proofs.Steady.{sends_steadily}
 
 -- ---- the chosen set is never empty

@@ -133,45 +133,15 @@ fn is_sent(
     cpus: u16,
     message: &Message,
     from: Option<(u16, Shorthand)>,
-    status: Status,
+    status: &Status,
 ) -> bool
     requires few { cpus ≤ 64 }
     requires places { length board.old.parts.lapics ≡ cpus }
     ensures { length board.new.parts.lapics ≡ cpus }
 {
     match send(board, cpus, message, from) {
-        Ok(answer) => answer == status,
+        Ok(answer) => answer == *status,
         Err(_) => false,
-    }
-}
-
-/// The message that a processor sends by these halves of ICR.
-fn ipi_by(lapic: &mut Lapic, high: u32, low: u32) -> Option<Ipi> {
-    let _high = lapic.store(0x310, high);
-    match lapic.store(0x300, low) {
-        Effect::Send(ipi) => Some(ipi),
-        _ => None,
-    }
-}
-
-/// Whether the local APIC answers a step of its own as it is told.
-fn answers_alone(lapic: &mut Lapic, step: Step) -> bool {
-    match step {
-        Give(_, vector) => lapic.give() == vector,
-        TakeNmi(_, is_pending) => lapic.take_nmi() == is_pending,
-        Errors(_, errors) => {
-            let _moved = lapic.store(0x280, 0);
-            lapic.load(0x280) == errors
-        }
-        _ => false,
-    }
-}
-
-/// The processor of a step.
-fn processor_of(step: Step) -> u16 {
-    match step {
-        Msi(..) => 0,
-        Icr(n, ..) | Give(n, _) | TakeNmi(n, _) | Errors(n, _) => n,
     }
 }
 
@@ -195,42 +165,81 @@ fn put_back(row: &mut LapicRow, n: u16, lapic: Lapic)
     }
 }
 
-/// Whether the processor of a step answers it as it is told, and the message that it sends, if it sends one.
-fn asks(row: &mut LapicRow, step: Step) -> (bool, Option<Ipi>)
+/// The message that a processor sends by these halves of ICR.
+fn ipi_by(row: &mut LapicRow, n: u16, high: u32, low: u32) -> Option<Ipi>
     ensures { length row.new ≡ length row.old }
 {
-    let n = processor_of(step);
-    let Some(mut lapic) = take(row, n) else {
-        return (false, None);
-    };
-    let answer = match step {
-        Icr(_, high, low, _) => (true, ipi_by(&mut lapic, high, low)),
-        _ => (answers_alone(&mut lapic, step), None),
-    };
+    let mut lapic = take(row, n)?;
+    let _high = lapic.store(0x310, high);
+    let effect = lapic.store(0x300, low);
     put_back(row, n, lapic);
-    answer
+    match effect {
+        Effect::Send(ipi) => Some(ipi),
+        _ => None,
+    }
 }
 
-/// Whether the board answers a step as it is told.
-fn answers(board: &mut OneBoard, cpus: u16, step: Step) -> bool
+/// Whether the local APIC answers a step of its own as it is told.
+fn answers_alone(lapic: &mut Lapic, step: &Step) -> bool {
+    match step {
+        Give(_, vector) => lapic.give() == *vector,
+        TakeNmi(_, is_pending) => lapic.take_nmi() == *is_pending,
+        Errors(_, errors) => {
+            let _moved = lapic.store(0x280, 0);
+            lapic.load(0x280) == *errors
+        }
+        _ => false,
+    }
+}
+
+/// Whether the processor answers a step of its own as it is told.
+fn is_answered(row: &mut LapicRow, n: u16, step: &Step) -> bool
+    ensures { length row.new ≡ length row.old }
+{
+    let Some(mut lapic) = take(row, n) else {
+        return false;
+    };
+    let is_right = answers_alone(&mut lapic, step);
+    put_back(row, n, lapic);
+    is_right
+}
+
+/// Whether a message of a processor is sent with that status.
+fn is_ipi_sent(
+    board: &mut OneBoard,
+    cpus: u16,
+    n: u16,
+    high: u32,
+    low: u32,
+    status: &Status,
+) -> bool
     requires few { cpus ≤ 64 }
     requires places { length board.old.parts.lapics ≡ cpus }
     ensures { length board.new.parts.lapics ≡ cpus }
 {
-    if let Msi(address, payload, status) = step {
-        return match decode(address, payload) {
+    let parts = board.parts();
+    match ipi_by(&mut parts.lapics, n, high, low) {
+        Some(ipi) => is_sent(board, cpus, &ipi.message, Some((n, ipi.to)), status),
+        None => false,
+    }
+}
+
+/// Whether the board answers a step as it is told.
+fn answers(board: &mut OneBoard, cpus: u16, step: &Step) -> bool
+    requires few { cpus ≤ 64 }
+    requires places { length board.old.parts.lapics ≡ cpus }
+    ensures { length board.new.parts.lapics ≡ cpus }
+{
+    match step {
+        Msi(address, payload, status) => match decode(*address, *payload) {
             Ok(message) => is_sent(board, cpus, &message, None, status),
             Err(_) => false,
-        };
-    }
-    let parts = board.parts();
-    let (is_right, ipi) = asks(&mut parts.lapics, step);
-    match (step, ipi) {
-        (Icr(n, _, _, status), Some(ipi)) => {
-            is_sent(board, cpus, &ipi.message, Some((n, ipi.to)), status)
+        },
+        Icr(n, high, low, status) => is_ipi_sent(board, cpus, *n, *high, *low, status),
+        Give(n, _) | TakeNmi(n, _) | Errors(n, _) => {
+            let parts = board.parts();
+            is_answered(&mut parts.lapics, *n, step)
         }
-        (Icr(..), None) => false,
-        _ => is_right,
     }
 }
 
@@ -240,7 +249,7 @@ fn first_wrong(board: &mut OneBoard, cpus: u16, steps: &[Step]) -> Option<usize>
     requires places { length board.old.parts.lapics ≡ cpus }
 {
     for k in 0..steps.len() {
-        if !answers(board, cpus, steps[k]) {
+        if !answers(board, cpus, &steps[k]) {
             return Some(k);
         }
     }
