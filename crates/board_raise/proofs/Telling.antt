@@ -105,6 +105,8 @@ status_told-some new stood some = elim (is_empty new) as (λ b. is_empty new ≡
   | false ↦ λ _. refl
 ] refl
 
+pub ruleset status_rules = (status_told-none, status_told-some)
+
 -- the same of parts and wishes that equal those
 told_at : (heading : Heading) (about : About) (result : Result Status Lacks) (o : OnParts TargetAnswer) (q r : Parts) (ws vs : Wishes) → q ≡ r → ws ≡ vs → Tells heading about result r vs o → Tells heading about result q ws o
 told_at heading about result o q r ws vs e h t = subst (λ p. Tells heading about result p ws o) (sym e) (subst (λ w. Tells heading about result r w o) (sym h) t)

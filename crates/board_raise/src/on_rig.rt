@@ -30,6 +30,7 @@ fn is_illegal(message: &Message) -> bool
 }
 
 // The status of a message that reached these processors.
+#[tactic(auto, using(crate::proofs::Telling::status_rules))]
 fn status_of(reached: Reached) -> Status
     ensures { result ≡ status_told (record { new = reached.new; stood = reached.stood }) }
 {

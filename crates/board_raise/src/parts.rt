@@ -1,4 +1,5 @@
 //! The parts of a board in hand.
+ghost use Rattle.std.specs.Prelude.{◌≡◌};
 
 use crate::row::LapicRow;
 use ack_notifiers::Watches;
@@ -33,6 +34,18 @@ pub struct RegistryPart {
     pub irqfds: Irqfds,
     pub watches: Watches,
     pub ioevents: IoEvents,
+}
+
+impl RegistryPart {
+    /// Makes the registry equal to the other. It takes no memory.
+    pub fn copy_from(&mut self, other: &RegistryPart)
+        ensures { self.new ≡ other.now }
+    {
+        self.table.copy_from(&other.table);
+        self.irqfds.copy_from(&other.irqfds);
+        self.watches.copy_from(&other.watches);
+        self.ioevents.copy_from(&other.ioevents);
+    }
 }
 
 /// Parts of a board, each in hand or not.

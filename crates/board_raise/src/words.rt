@@ -1,11 +1,11 @@
 //! The published words of a board on one thread.
-ghost use Rattle.std.specs.Prelude.{◌≡◌, ◌<◌, IsTrue, IfSome, is_some, option_map};
+ghost use Rattle.std.specs.Prelude.{◌≡◌, ◌<◌, All, IsTrue, IfSome, is_some, option_map};
 ghost use Rattle.route_table.specs.Pins.{IsPin, gsi_of};
 ghost use Rattle.route_table.specs.Rows.{targets_of};
 ghost use Rattle.route_table.specs.Words.{is_route};
 ghost use Rattle.irqfd_set.specs.Rows.{of_trigger};
 ghost use Rattle.board_model.specs.Laws.{PublishesRouting};
-ghost use Rattle.board_model.specs.Published.{IsSoundRegistry};
+ghost use Rattle.board_model.specs.Published.{IsSoundIrqfd};
 ghost use Rattle.board_model.specs.Routing.{is_marked, trigger_of};
 ghost use Rattle.board_raise.specs.InHand.{registry_of};
 
@@ -19,6 +19,7 @@ use irq_base::{Pin, Targets};
 pub struct Words {
     registry: RegistryPart,
     tick: u16,
+    ghost in_range: { tick < 4096 },
     ghost told: { ∥ PublishesRouting (registry_of registry) tick ∥₁ },
 }
 
@@ -27,13 +28,27 @@ impl Words {
     ghost use Rattle.board_model.specs.Published.{routing_of_words};
     ghost use Rattle.board_raise.specs.OneBoard.{words_in};
 
-    /// The words of a sound registry.
+    /// The words of a registry whose registrations name triggers and GSIs that there are.
     pub fn of(registry: RegistryPart, tick: u16) -> Words
-        requires { IsSoundRegistry (registry_of registry) tick }
+        requires irqfds { All IsSoundIrqfd registry.irqfds }
+        requires watches { All (λ row. row.gsi < 4096) registry.watches }
+        requires tick { tick < 4096 }
         ensures registry { result.registry ≡ registry }
         ensures tick { result.tick ≡ tick }
     {
+        registry.table.keeps_the_rules();
         Words { registry, tick }
+    }
+
+    /// From now on the words are those of this registry. It takes no memory.
+    pub fn publish(&mut self, registry: &RegistryPart)
+        requires irqfds { All IsSoundIrqfd registry.now.irqfds }
+        requires watches { All (λ row. row.gsi < 4096) registry.now.watches }
+        ensures registry { self.new.registry ≡ registry.now }
+        ensures tick { self.new.tick ≡ self.old.tick }
+    {
+        registry.table.keeps_the_rules();
+        self.registry.copy_from(registry);
     }
 
     /// Where a GSI goes.
