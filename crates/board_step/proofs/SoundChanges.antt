@@ -66,7 +66,7 @@ kept_whole {A} shape bound r m b ws fine keeps each =
     record { fine = both.0; each = both.1 }
 
 -- another registry with the same pins, whose triggers were such before
-moved : (shape : Shape) (bound : ℕ) (r s : RegistryPart) (b : Board) → Each r shape bound b → ((c : ℕ) → IsTrue (is_trigger s c) → IsTrue (is_trigger r c)) → ((pin : Pin) → HasResampler r pin → HasResampler s pin) → Each s shape bound (record b { registry = s })
+pub moved : (shape : Shape) (bound : ℕ) (r s : RegistryPart) (b : Board) → Each r shape bound b → ((c : ℕ) → IsTrue (is_trigger s c) → IsTrue (is_trigger r c)) → ((pin : Pin) → HasResampler r pin → HasResampler s pin) → Each s shape bound (record b { registry = s })
 moved shape bound r s b each triggers resamplers parts.Registry = refl
 moved shape bound r s b each triggers resamplers parts.Counters = let c = each parts.Counters in record { number = c.number; greatest = c.greatest; triggers = λ counter count on at. c.triggers counter count (triggers counter on) at }
 moved shape bound r s b each triggers resamplers parts.Tick = each parts.Tick
