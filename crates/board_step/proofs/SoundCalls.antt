@@ -116,12 +116,12 @@ module _ (shape : Shape) (r : RegistryPart) (bound : ℕ) (fine : RegistryFine s
 
   -- ---- lines, messages, counters
 
-  line_keeps : (gsi line : ℕ) (high : Bool) → Keeps r shape bound (line_set routes shape gsi line high)
+  pub line_keeps : (gsi line : ℕ) (high : Bool) → Keeps r shape bound (line_set routes shape gsi line high)
   line_keeps gsi line true = keeps_bind r shape bound (λ status. done tt) (raise shape.cpus (routes.targets gsi) (Line line) (λ pic. the_reply pic))
       (raise_keeps r shape bound shape.cpus (routes.targets gsi) (Line line) (λ pic. the_reply pic) (may_hold r fine.sound.table gsi (Line line) (line_is_not line))) (λ _. tt)
   line_keeps gsi line false = lower_keeps r shape bound (routes.targets gsi) (Line line)
 
-  message_keeps : (address payload : ℕ) → Keeps r shape bound (message_sent shape address payload)
+  pub message_keeps : (address payload : ℕ) → Keeps r shape bound (message_sent shape address payload)
   message_keeps address payload = keeps_bind r shape bound (λ answer. done tt) (send shape.cpus (message_in address payload) None (the_reply None)) (send_keeps r shape bound shape.cpus (message_in address payload) None (the_reply None)) (λ _. tt)
 
   -- the source of a trigger may hold its pins
@@ -135,14 +135,14 @@ module _ (shape : Shape) (r : RegistryPart) (bound : ℕ) (fine : RegistryFine s
         | false ↦ λ e. (counts_written r shape.counters counts counter (slice_index counts counter + n) stand off (not_over (2 ^ 64 - 2) (slice_index counts counter + n) e), tt)
       ] refl
 
-  write_keeps : (trigger : Option TriggerWord) (counter n : ℕ) → routes.trigger counter ≡ trigger → Keeps r shape bound (write routes shape trigger counter n)
+  pub write_keeps : (trigger : Option TriggerWord) (counter n : ℕ) → routes.trigger counter ≡ trigger → Keeps r shape bound (write routes shape trigger counter n)
   write_keeps None counter n e = count_keeps counter n (no_irqfd r.irqfds counter e)
   write_keeps (Some trigger) counter n e = if_keeps (nat_eq n 0) (reply Done) (trigger_written routes shape trigger) tt (inject_only (routes.targets trigger.gsi) (source_of trigger.resample) (λ pic. the_reply pic) (trigger_may counter trigger e))
 
-  take_keeps : (counter : ℕ) → Keeps r shape bound (take counter)
+  pub take_keeps : (counter : ℕ) → Keeps r shape bound (take counter)
   take_keeps counter = λ counts stand. (counts_taken r shape.counters counts counter stand, tt)
 
-  tick_mode_keeps : (reinject : Bool) → Keeps r shape bound (tick_mode reinject)
+  pub tick_mode_keeps : (reinject : Bool) → Keeps r shape bound (tick_mode reinject)
   tick_mode_keeps reinject = (omega arith, tt)
 
   -- ---- processors
@@ -151,7 +151,7 @@ module _ (shape : Shape) (r : RegistryPart) (bound : ℕ) (fine : RegistryFine s
   end_vector_keeps None = tt
   end_vector_keeps (Some vector) = λ part _. acks_keep shape r bound fine (pins_with (ioapic_of part) vector)
 
-  eoi_keeps : (n : ℕ) → Keeps r shape bound (end_of_interrupt routes shape n)
+  pub eoi_keeps : (n : ℕ) → Keeps r shape bound (end_of_interrupt routes shape n)
   eoi_keeps n = λ apic number. (
     service_number apic (greatest_vector apic.isr) ∙ number,
     keeps_then r shape bound (end_vector routes shape (greatest_vector apic.isr)) (reply _) (end_vector_keeps (greatest_vector apic.isr)) tt,
@@ -160,7 +160,7 @@ module _ (shape : Shape) (r : RegistryPart) (bound : ℕ) (fine : RegistryFine s
   cycle_keeps : (pic : PicPart) (made : Cycle) (answer : Reply) → HoldsStand r pic.holds 16 pins.Pic → Keeps r shape bound (cycle_made routes shape pic made answer)
   cycle_keeps pic made answer stands = (stands, keeps_then r shape bound (acknowledge_each routes shape (cycle_pins made.pins)) (reply answer) (acks_keep shape r bound fine (cycle_pins made.pins)) tt)
 
-  inta_keeps : Keeps r shape bound (inta routes shape)
+  pub inta_keeps : Keeps r shape bound (inta routes shape)
   inta_keeps = λ pic stands. cycle_keeps pic (cycle (pair_of pic)) (Vector (cycle (pair_of pic)).vector) stands
 
   give_keeps : (n : ℕ) (apic : LocalApic) → apic.number ≡ n → Keeps r shape bound (give n apic)
@@ -170,7 +170,7 @@ module _ (shape : Shape) (r : RegistryPart) (bound : ℕ) (fine : RegistryFine s
   pair_keeps n apic number = λ pic stands. if_keeps (has_output (pair_of pic)) (cycle_made routes shape pic (cycle (pair_of pic)) (Extint (cycle (pair_of pic)).vector)) (give n apic)
       (cycle_keeps pic (cycle (pair_of pic)) (Extint (cycle (pair_of pic)).vector) stands) (give_keeps n apic number)
 
-  next_keeps : (n : ℕ) → Keeps r shape bound (next_interrupt routes shape n)
+  pub next_keeps : (n : ℕ) → Keeps r shape bound (next_interrupt routes shape n)
   next_keeps n = λ apic number. if_keeps apic.nmi (take_nmi n apic) (if hears_pair n apic then give_of_pair routes shape n apic else give n apic) (number, tt)
       (if_keeps (hears_pair n apic) (give_of_pair routes shape n apic) (give n apic) (pair_keeps n apic number) (give_keeps n apic number))
 
@@ -220,13 +220,13 @@ module _ (shape : Shape) (r : RegistryPart) (bound : ℕ) (fine : RegistryFine s
   ring_keeps : (space : Space) (address len value : ℕ) → Keeps r shape bound (ring routes shape space address len value)
   ring_keeps space address len value = λ registry _. rung_keeps (rung_by registry.ioevents space address len value)
 
-  port_out_keeps : (port len value : ℕ) → Keeps r shape bound (port_out routes shape port len value)
+  pub port_out_keeps : (port len value : ℕ) → Keeps r shape bound (port_out routes shape port len value)
   port_out_keeps port len value = if_keeps (is_port port) (pair_write routes shape port len value) (ring routes shape spaces.Port port len value) (pair_write_keeps port len value) (ring_keeps spaces.Port port len value)
 
-  port_in_keeps : (port len : ℕ) → Keeps r shape bound (port_in routes shape port len)
+  pub port_in_keeps : (port len : ℕ) → Keeps r shape bound (port_in routes shape port len)
   port_in_keeps port len = if_keeps (is_port port) (pair_read routes shape port len) (reply Exit) (pair_read_keeps port len) tt
 
-  store_keeps : (n address len value : ℕ) → Keeps r shape bound (store routes shape n address len value)
+  pub store_keeps : (n address len value : ℕ) → Keeps r shape bound (store routes shape n address len value)
   store_keeps n address len value =
       let chip = ioapic_store shape (address - 0xfec00000) len value in
       let own = lapic_store routes shape n (address - 0xfee00000) len value in
@@ -234,7 +234,7 @@ module _ (shape : Shape) (r : RegistryPart) (bound : ℕ) (fine : RegistryFine s
       if_keeps (is_ioapic_address address) chip (if is_lapic_address address then own else other) (ioapic_store_keeps (address - 0xfec00000) len value)
       (if_keeps (is_lapic_address address) own other (lapic_store_keeps n (address - 0xfee00000) len value) (ring_keeps spaces.Memory address len value))
 
-  load_keeps : (n address len : ℕ) → Keeps r shape bound (load n address len)
+  pub load_keeps : (n address len : ℕ) → Keeps r shape bound (load n address len)
   load_keeps n address len =
       let chip = ioapic_load (address - 0xfec00000) len in
       let own = lapic_load n (address - 0xfee00000) len in

@@ -79,7 +79,7 @@ pub unless_whole : (shape : Shape) (bound : ℕ) (b : Board) (ws : Wishes) (refu
 unless_whole shape bound b ws None plan w h = h refl
 unless_whole shape bound b ws (Some refusal) plan w h = w
 
-less_of : (a b : ℕ) → nat_le a b ≡ false → b < a
+pub less_of : (a b : ℕ) → nat_le a b ≡ false → b < a
 less_of a b e = grind arith
 
 turned_one : (a b : ℕ) → nat_eq a b ≡ false → nat_eq b a ≡ false
