@@ -1,14 +1,11 @@
 -- An acknowledge of a pin keeps a sound board's parts.
-use Rattle.std.proofs.Common.{◌≡◌, ℕ, ◌+◌, ◌-◌, ◌≤◌, Bool, true, false, not, nat_eq, if◌then◌else◌, List, [], ◌∷◌, Some, None, refl, sym, ap, subst, ◌∙◌, arith, length-set}
-use Rattle.std.specs.Prelude.{IsTrue}
+use Rattle.std.proofs.Common.{◌≡◌, ℕ, ◌-◌, ◌≤◌, Bool, true, false, not, nat_eq, if◌then◌else◌, List, [], ◌∷◌, Some, None, sym, subst, ◌∙◌, arith, length-set}
 use Rattle.std.specs.declared.option.Option.{Option}
 use Rattle.irq_base.specs.declared.event.Event.{Event}
 use Rattle.irq_base.specs.declared.event.Pin.{Pin}
 use Rattle.irq_base.specs.declared.event.Pin.TheVariants as pins
 use Rattle.irq_base.specs.declared.message.Message.{Message}
-use Rattle.irq_base.specs.declared.message.Source.{Source}
-use Rattle.irq_base.specs.declared.message.Source.TheVariants.{Resample, Line, Pulse, Tick as TickSource}
-use Rattle.irq_base.specs.declared.message.Targets.{Targets}
+use Rattle.irq_base.specs.declared.message.Source.TheVariants.{Resample, Tick as TickSource}
 use Rattle.irq_base.specs.declared.shape.Shape.{Shape}
 use Rattle.irq_base.specs.declared.status.Status.{Status}
 use Rattle.ioapic_82093aa.specs.Pins.{entry_at, acknowledged, resend_of}
@@ -19,17 +16,17 @@ use Rattle.tick_reinject.specs.declared.state.TickState.{TickState}
 use Rattle.tick_reinject.specs.Ticks.{ack_injects, tick_acked, tick_injected, is_ignored}
 use Rattle.board_model.specs.Registry.{RegistryPart}
 use Rattle.board_model.specs.Routing.{Routing, routing_of_registry}
-use Rattle.board_model.specs.Chips.{IoapicPart, ioapic_of}
+use Rattle.board_model.specs.Chips.{ioapic_of}
 use Rattle.board_model.specs.Statuses.{TargetAnswer}
-use Rattle.board_model.specs.Plan.{About, injected, resent, Plan, done, change, say, ◌>>=◌, ◌>>◌}
+use Rattle.board_model.specs.Plan.{About, injected, resent, done, change, ◌>>=◌, ◌>>◌}
 use Rattle.board_raise.specs.Send.{send}
 use Rattle.board_raise.specs.Signal.{is_accepted, accept_pin, let_go, inject}
 use Rattle.board_ack.specs.Ticks.{inject_tick, inject_next, acknowledge_tick}
-use Rattle.board_ack.specs.Acknowledge.{say_each, signal_each, see_concerned, resample, notify, resample_and_notify, tell_concerned, resend, clear_and_resend, end_level, end_tick, acknowledge, acknowledge_each}
+use Rattle.board_ack.specs.Acknowledge.{say_each, signal_each, resample, notify, resample_and_notify, tell_concerned, resend, clear_and_resend, end_level, end_tick, acknowledge, acknowledge_each}
 use Rattle.irq_base.specs.declared.shape.Part.TheVariants as parts
 use Rattle.board_step.proofs.SoundCounts.{NoTriggers, counts_signalled_all}
-use Rattle.board_step.proofs.SoundPlans.{IoapicFine, Minds, Keeps, keeps_bind, keeps_then}
-use Rattle.board_step.proofs.SoundSends.{MayHold, send_keeps, accept_pin_keeps, let_go_keeps, inject_keeps}
+use Rattle.board_step.proofs.SoundPlans.{Keeps, keeps_bind, keeps_then}
+use Rattle.board_step.proofs.SoundSends.{send_keeps, accept_pin_keeps, let_go_keeps, inject_keeps}
 use Rattle.board_step.proofs.SoundRegistry.{RegistryFine, resampled_free, watched_free, may_hold}
 
 pub tick_injected_low : (s : TickState) (status : Status) (bound : ℕ) → s.pending ≤ bound → (tick_injected s status).pending ≤ bound

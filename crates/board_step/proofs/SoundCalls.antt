@@ -1,6 +1,6 @@
 -- The calls that leave the registry keep a sound board's parts.
-use Rattle.std.proofs.Common.{◌≡◌, ℕ, ◌+◌, ◌-◌, ◌%◌, ◌/◌, ◌^◌, ◌≤◌, Bool, true, false, not, ◌||◌, nat_eq, nat_lt, if◌then◌else◌, List, [], ◌∷◌, length, Some, None, refl, sym, ap, subst, ◌∙◌, arith, length-set}
-use Rattle.std.specs.Prelude.{IsTrue, slice_index}
+use Rattle.std.proofs.Common.{◌≡◌, ℕ, ◌+◌, ◌-◌, ◌%◌, ◌^◌, ◌≤◌, Bool, true, false, nat_eq, nat_lt, if◌then◌else◌, length, Some, None, refl, ◌∙◌, arith, length-set}
+use Rattle.std.specs.Prelude.{slice_index}
 use Rattle.std.specs.declared.option.Option.{Option}
 use Rattle.irq_bits.specs.Members.{greatest_vector}
 use Rattle.irq_base.specs.declared.call.Space.{Space}
@@ -13,42 +13,39 @@ use Rattle.irq_base.specs.declared.message.Targets.{Targets}
 use Rattle.irq_base.specs.declared.refusal.Refusal.{Refusal}
 use Rattle.irq_base.specs.declared.refusal.Refusal.TheVariants.{Over}
 use Rattle.irq_base.specs.declared.reply.Reply.{Reply}
-use Rattle.irq_base.specs.declared.reply.Reply.TheVariants.{Done, Value, Exit, Extint, Vector, Ended, Nothing, Nmi, Refused}
+use Rattle.irq_base.specs.declared.reply.Reply.TheVariants.{Done, Value, Exit, Extint, Vector}
 use Rattle.irq_base.specs.declared.shape.Part.TheVariants as parts
 use Rattle.irq_base.specs.declared.shape.Shape.{Shape}
-use Rattle.irqfd_set.specs.Rows.{has_resampler}
-use Rattle.pic_8259a.specs.declared.pair.Pair.{Pair}
-use Rattle.pic_8259a.specs.Accesses.{Effect, Read}
 use Rattle.pic_8259a.specs.Pair.{is_port, has_output, Cycle, cycle, write_to as pair_write_to, read_from as pair_read_from}
 use Rattle.ioapic_82093aa.specs.declared.ioapic.Ioapic.{Ioapic}
 use Rattle.ioapic_82093aa.specs.declared.registers.Register.{Register}
 use Rattle.ioapic_82093aa.specs.declared.registers.Register.TheVariants as ioregisters
 use Rattle.ioapic_82093aa.specs.Registers.{register_of}
-use Rattle.ioapic_82093aa.specs.Pins.{Written, register_written, write_to, resend_of}
+use Rattle.ioapic_82093aa.specs.Pins.{register_written, write_to, resend_of}
 use Rattle.lapic.specs.declared.outcome.Effect.{Effect as LapicEffect}
 use Rattle.lapic.specs.declared.outcome.Effect.TheVariants as effects
 use Rattle.lapic.specs.Registers.{LocalApic, register_at}
 use Rattle.lapic.specs.Priority.{giveable_of, given, without_service}
-use Rattle.lapic.specs.Offsets.{stored, stored_at, store_to, store_effect}
+use Rattle.lapic.specs.Offsets.{stored_at, store_to, store_effect}
 use Rattle.event_counter.specs.Counters.{written}
 use Rattle.ioevent_set.specs.Rows.{rung_by}
 use Rattle.msi_decode.specs.Messages.{message_in}
 use Rattle.board_model.specs.declared.trigger.TriggerWord.{TriggerWord}
 use Rattle.board_model.specs.Registry.{RegistryPart}
 use Rattle.board_model.specs.Routing.{Routing}
-use Rattle.board_model.specs.Chips.{PicPart, pair_of, with_pair, IoapicPart, ioapic_of}
+use Rattle.board_model.specs.Chips.{PicPart, pair_of, ioapic_of}
 use Rattle.board_model.specs.Statuses.{TargetAnswer}
-use Rattle.board_model.specs.Plan.{About, injected, ipi, the_reply, Plan, done, change, set as put_part, reply, ◌>>=◌, ◌>>◌}
+use Rattle.board_model.specs.Plan.{About, injected, ipi, the_reply, Plan, done, set as put_part, reply, ◌>>=◌, ◌>>◌}
 use Rattle.board_raise.specs.Send.{send}
-use Rattle.board_raise.specs.Signal.{raise, lower, inject}
-use Rattle.board_ack.specs.Acknowledge.{resend, acknowledge_each}
-use Rattle.board_step.specs.Refusals.{is_trigger, write_reasons, is_ioapic_address, is_lapic_address}
-use Rattle.board_step.specs.Registrations.{unless_refused, unless_one_of, line_set, message_sent, source_of, trigger_written, count_written, write, take}
+use Rattle.board_raise.specs.Signal.{raise, inject}
+use Rattle.board_ack.specs.Acknowledge.{acknowledge_each}
+use Rattle.board_step.specs.Refusals.{is_trigger, is_ioapic_address, is_lapic_address}
+use Rattle.board_step.specs.Registrations.{unless_refused, line_set, message_sent, source_of, trigger_written, count_written, write, take}
 use Rattle.board_step.specs.Ticks.{tick_mode}
 use Rattle.board_step.specs.Processors.{pic_pin, pins_with, end_vector, end_of_interrupt, cycle_pins, cycle_made, inta, give, hears_pair, give_of_pair, take_nmi, next_interrupt}
 use Rattle.board_step.specs.Accesses.{pair_written, pair_write, pair_gave, pair_read, resend_written, ioapic_written, ioapic_store, ioapic_load, store_effects, lapic_stored, lapic_store, lapic_load, ring_counter, rung, ring, port_out, port_in, store, load}
-use Rattle.board_step.proofs.SoundCounts.{CountsFine, counts_signalled, counts_taken, counts_written}
-use Rattle.board_step.proofs.SoundPlans.{IoapicFine, Minds, Keeps, keeps_bind, keeps_then}
+use Rattle.board_step.proofs.SoundCounts.{counts_signalled, counts_taken, counts_written}
+use Rattle.board_step.proofs.SoundPlans.{Keeps, keeps_bind, keeps_then}
 use Rattle.board_step.proofs.SoundSends.{MayHold, send_keeps, raise_keeps, lower_keeps, inject_keeps}
 use Rattle.board_step.proofs.SoundRegistry.{RegistryFine, no_irqfd, irqfd_resamples, may_hold}
 use Rattle.board_step.proofs.SoundAcks.{routing, resend_keeps, acks_keep}

@@ -1,56 +1,47 @@
 -- The calls that change the registry lead from a sound board to one.
-use Rattle.std.proofs.Common.{◌≡◌, ◌≢◌, ℕ, ◌+◌, ◌-◌, ◌^◌, ◌<◌, ◌≤◌, zero, suc, Bool, true, false, true≢false, not, ◌&&◌, ◌||◌, nat_eq, nat_lt, nat_le, if◌then◌else◌, inl, inr, List, [], ◌∷◌, ◌++◌, length, get_or, filter, All, Some, None, IfSome, refl, sym, ap, subst, ◌∙◌, arith, length-append}
+use Rattle.std.proofs.Common.{◌≡◌, ℕ, ◌<◌, ◌≤◌, zero, suc, Bool, true, false, true≢false, not, ◌&&◌, ◌||◌, nat_eq, nat_lt, nat_le, inl, inr, List, [], ◌∷◌, ◌++◌, length, get_or, filter, All, Some, None, IfSome, refl, sym, subst, ◌∙◌, arith, length-append}
 use Rattle.std.specs.Prelude.{IsTrue, is_some, AllPairs, slice_get, slice_set, slice_index}
-use Rattle.std.specs.FinSet as set
 use Rattle.std.specs.List.{list_any}
-use Rattle.std.specs.Cmp.{first_so, second_so, unsigned_Decides, nat_eq_equiv}
+use Rattle.std.specs.Cmp.{nat_eq_equiv}
 use Rattle.std.specs.declared.option.Option.{Option}
 use Rattle.std.proofs.lemmas.Bool.Decides.{eqb_tells}
 use Rattle.std.proofs.lemmas.List.Elements.{All-push, All-filter, All-weaker}
 use Rattle.std.proofs.lemmas.List.Folds.{list_any-append}
 use Rattle.std.proofs.lemmas.List.Kept.{AllPairs-filter}
-use Rattle.irq_base.specs.Refusals.{Reason, first_of}
-use Rattle.irq_base.specs.declared.call.Row.{Row}
+use Rattle.irq_base.specs.Refusals.{first_of}
 use Rattle.irq_base.specs.declared.event.Pin.{Pin}
 use Rattle.irq_base.specs.declared.event.Pin.TheVariants as pins
-use Rattle.irq_base.specs.declared.message.Source.{Source}
-use Rattle.irq_base.specs.declared.message.Source.TheVariants.{Resample}
 use Rattle.irq_base.specs.declared.refusal.Refusal.{Refusal}
-use Rattle.irq_base.specs.declared.refusal.Refusal.TheVariants.{Busy, RoleClash, Exists, Full, NotThere}
-use Rattle.irq_base.specs.declared.reply.Reply.TheVariants.{Done, Removed, Refused}
+use Rattle.irq_base.specs.declared.refusal.Refusal.TheVariants.{Busy, RoleClash, Exists, Full}
+use Rattle.irq_base.specs.declared.reply.Reply.TheVariants.{Done}
 use Rattle.irq_base.specs.declared.shape.Part.TheVariants as parts
 use Rattle.irq_base.specs.declared.shape.Shape.{Shape}
-use Rattle.source_levels.specs.Holds.{Hold, Holds, hold}
 use Rattle.irqfd_set.specs.declared.irqfds.Irqfd.{Irqfd}
 use Rattle.irqfd_set.specs.Rows as irqfds
 use Rattle.ack_notifiers.specs.declared.watches.Watch.{Watch}
 use Rattle.ack_notifiers.specs.Rows as watches
 use Rattle.ioevent_set.specs.declared.row.IoRow.{IoRow}
 use Rattle.ioevent_set.specs.Rows as ioevents
-use Rattle.route_table.specs.Rows.{Table, table_of, targets_of, refusal_of}
-use Rattle.route_table.specs.Pins.{gsi_of}
+use Rattle.route_table.specs.Rows.{targets_of}
 use Rattle.route_table.specs.Sound.{no_reason}
 use Rattle.event_counter.specs.Counters.{taken}
 use Rattle.board_model.specs.Registry.{RegistryPart}
-use Rattle.board_model.specs.Routing.{Routing, routing_of_registry}
-use Rattle.board_model.specs.Published.{IsSoundTable, IsSoundRegistry, IsSoundIrqfd}
-use Rattle.board_model.specs.Chips.{PicPart, IoapicPart}
+use Rattle.board_model.specs.Routing.{routing_of_registry}
+use Rattle.board_model.specs.Published.{IsSoundIrqfd}
 use Rattle.board_model.specs.Board.{Board}
-use Rattle.board_model.specs.Plan.{injected, Plan, done, reply, ◌>>=◌, ◌>>◌}
-use Rattle.board_model.specs.Run.{Wishes, Outcome, run}
-use Rattle.board_model.proofs.Sequence.{run-bind}
-use Rattle.board_raise.specs.Fit.{IrqfdFits, WatchFits, RegistrationsFit}
-use Rattle.board_raise.specs.Signal.{inject, let_go_pic, let_go_ioapic, let_go, pic_let_go, ioapic_let_go}
+use Rattle.board_model.specs.Plan.{injected, Plan, done, reply, ◌>>◌}
+use Rattle.board_model.specs.Run.{Wishes, run}
+use Rattle.board_raise.specs.Fit.{IrqfdFits, WatchFits}
+use Rattle.board_raise.specs.Signal.{inject}
 use Rattle.board_step.specs.Refusals.{is_trigger, is_counter, has_resample, is_signalled, resample_clashes, assign_reasons, attach_reasons, detach_reasons, watch_reasons, unwatch_reasons}
-use Rattle.board_step.specs.Registrations.{unless_refused, unless_one_of, source_of, inject_count, assigned, assign, was_last_resampler, release, deassigned, deassign, is_same_gsi, keeps_gsi, kept_holds, reroute, attach, detach, watch, unwatch}
-use Rattle.board_step.specs.Sound.{AreDistinct, HasResampler, HoldsStand}
-use Rattle.board_step.proofs.SoundHolds.{hold_fewer, was_held, not_removed, retained}
+use Rattle.board_step.specs.Registrations.{unless_refused, source_of, inject_count, assign, attach, detach, watch, unwatch}
+use Rattle.board_step.specs.Sound.{HasResampler}
 use Rattle.board_step.proofs.SoundCounts.{CountsFine, counts_taken}
-use Rattle.board_step.proofs.SoundPlans.{IoapicFine, Fine, Each, Minds, Keeps, stays_fine, keeps_bind, keeps_then}
+use Rattle.board_step.proofs.SoundPlans.{Each, Keeps, stays_fine, keeps_bind, keeps_then}
 use Rattle.board_step.proofs.SoundSends.{MayHold, inject_keeps}
-use Rattle.board_step.proofs.SoundRegistry.{RegistryFine, target_of_gsi, may_hold}
+use Rattle.board_step.proofs.SoundRegistry.{RegistryFine, may_hold}
 use Rattle.board_step.proofs.SoundCalls.{resamples_if}
-use Rattle.board_step.proofs.SoundRows.{or_neither, or_both, each_fails, pairs_push, any_fewer, none_fewer, length_fewer, named_gsi, resampler_stays, resamplers_stay}
+use Rattle.board_step.proofs.SoundRows.{or_neither, or_both, each_fails, pairs_push, none_fewer, length_fewer}
 
 -- a board whose registry is sound, and each part with it
 pub record Whole (shape : Shape) (bound : ℕ) (b : Board) : Type 0 where
@@ -237,10 +228,10 @@ module _ (shape : Shape) (bound : ℕ) (b : Board) (ws : Wishes) (w : Whole shap
         named = record { irqfds = All-push (IrqfdFits shape.counters) r.irqfds row w.fine.named.irqfds fits; watches = w.fine.named.watches; ioevents = w.fine.named.ioevents };
         distinct = record {
           triggers = pairs_push (λ (a c : Irqfd). irqfds.has_trigger a.trigger c ≡ false) r.irqfds row w.fine.distinct.triggers
-          (All-weaker (λ (i : Irqfd). irqfds.has_trigger row.trigger i ≡ false) (λ (i : Irqfd). irqfds.has_trigger i.trigger row ≡ false) (λ i off. turned_one i.trigger row.trigger off) r.irqfds (each_fails (irqfds.has_trigger row.trigger) r.irqfds busy.0));
+              (All-weaker (λ (i : Irqfd). irqfds.has_trigger row.trigger i ≡ false) (λ (i : Irqfd). irqfds.has_trigger i.trigger row ≡ false) (λ i off. turned_one i.trigger row.trigger off) r.irqfds (each_fails (irqfds.has_trigger row.trigger) r.irqfds busy.0));
           roles = All-push (λ (i : Irqfd). is_signalled (record r { irqfds = r.irqfds ++ row ∷ [] }) i.trigger ≡ false) r.irqfds row
-          (λ k d below. role_more r.irqfds row (watches.has_counter r.watches (get_or r.irqfds k d).trigger) (get_or r.irqfds k d).trigger (w.fine.distinct.roles k d below) (free.1 k d below))
-          (role_more r.irqfds row (watches.has_counter r.watches row.trigger) row.trigger roles.0 free.0);
+              (λ k d below. role_more r.irqfds row (watches.has_counter r.watches (get_or r.irqfds k d).trigger) (get_or r.irqfds k d).trigger (w.fine.distinct.roles k d below) (free.1 k d below))
+              (role_more r.irqfds row (watches.has_counter r.watches row.trigger) row.trigger roles.0 free.0);
           watches = w.fine.distinct.watches;
           watch_count = w.fine.distinct.watch_count;
           ioevents = w.fine.distinct.ioevents;
@@ -253,7 +244,7 @@ module _ (shape : Shape) (bound : ℕ) (b : Board) (ws : Wishes) (w : Whole shap
   inject_count_keeps row true =
       let s : RegistryPart = record b.registry { irqfds = b.registry.irqfds ++ row ∷ [] } in
       let may : MayHold s (targets_of b.registry.table row.gsi) (source_of (is_some row.resample)) = may_hold s w.fine.sound.table row.gsi (source_of (is_some row.resample))
-          (λ is. list_any-append (irqfds.resamples row.gsi) b.registry.irqfds (row ∷ []) ∙ or_there (irqfds.has_resampler b.registry.irqfds row.gsi) (irqfds.resamples row.gsi row || false) (own row.gsi (is_some row.resample) (resamples_if (is_some row.resample) is))) in
+      (λ is. list_any-append (irqfds.resamples row.gsi) b.registry.irqfds (row ∷ []) ∙ or_there (irqfds.has_resampler b.registry.irqfds row.gsi) (irqfds.resamples row.gsi row || false) (own row.gsi (is_some row.resample) (resamples_if (is_some row.resample) is))) in
       keeps_bind s shape bound (λ status. done tt) (inject shape.cpus (targets_of b.registry.table row.gsi) (source_of (is_some row.resample)) (λ pic. injected row.gsi pic))
       (inject_keeps s shape bound shape.cpus (targets_of b.registry.table row.gsi) (source_of (is_some row.resample)) (λ pic. injected row.gsi pic) may) (λ _. tt)
     where

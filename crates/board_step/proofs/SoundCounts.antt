@@ -1,6 +1,6 @@
 -- Counts that stand: a signal, a write and a read keep them so.
-use Rattle.std.proofs.Common.{◌≡◌, ℕ, ◌+◌, ◌-◌, ◌^◌, ◌≤◌, zero, suc, Bool, true, false, true≢false, inl, inr, List, [], ◌∷◌, length, min, All, Some, None, refl, sym, ap, subst, ◌∙◌, arith, length-set}
-use Rattle.std.specs.Prelude.{IsTrue, ◌⊎◌, fold, slice_get, slice_set, slice_index}
+use Rattle.std.proofs.Common.{◌≡◌, ℕ, ◌+◌, ◌-◌, ◌^◌, ◌≤◌, zero, suc, false, true≢false, inl, inr, List, [], ◌∷◌, length, min, All, Some, refl, sym, ap, subst, ◌∙◌, arith, length-set}
+use Rattle.std.specs.Prelude.{IsTrue, ◌⊎◌, slice_get, slice_set, slice_index}
 use Rattle.std.proofs.lemmas.List.Elements.{All-set}
 use Rattle.irq_base.specs.Counts.{signalled}
 use Rattle.event_counter.specs.Counters.{signalled_all}

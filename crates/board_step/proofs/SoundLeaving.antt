@@ -1,6 +1,6 @@
 -- An irqfd that ends, and a routing table that is replaced, lead from a sound board to one.
-use Rattle.std.proofs.Common.{◌≡◌, ◌≢◌, ℕ, ◌<◌, Bool, true, false, true≢false, not, ◌&&◌, ◌||◌, nat_eq, inl, inr, List, [], ◌∷◌, filter, All, Some, None, refl, sym, ap, subst, ◌∙◌, arith}
-use Rattle.std.specs.Prelude.{IsTrue, is_some, AllPairs, ◌⊎◌}
+use Rattle.std.proofs.Common.{◌≡◌, ◌≢◌, ℕ, Bool, true, false, true≢false, not, ◌&&◌, inl, inr, List, filter, All, Some, None, refl, sym, ap, subst, ◌∙◌}
+use Rattle.std.specs.Prelude.{IsTrue, is_some}
 use Rattle.std.specs.FinSet as set
 use Rattle.std.specs.List.{list_any}
 use Rattle.std.specs.Cmp.{unsigned_Decides}
@@ -12,29 +12,29 @@ use Rattle.irq_base.specs.declared.call.Row.{Row}
 use Rattle.irq_base.specs.declared.event.Pin.{Pin}
 use Rattle.irq_base.specs.declared.event.Pin.TheVariants as pins
 use Rattle.irq_base.specs.declared.message.Source.TheVariants.{Resample}
-use Rattle.irq_base.specs.declared.reply.Reply.TheVariants.{Done, Removed}
+use Rattle.irq_base.specs.declared.reply.Reply.TheVariants.{Removed}
 use Rattle.irq_base.specs.declared.shape.Part.TheVariants as parts
 use Rattle.irq_base.specs.declared.shape.Shape.{Shape}
 use Rattle.source_levels.specs.Holds.{Hold, Holds, hold}
 use Rattle.irqfd_set.specs.declared.irqfds.Irqfd.{Irqfd}
 use Rattle.irqfd_set.specs.Rows.{has_trigger, is_named, has_resampler, named_row, without_row}
 use Rattle.ack_notifiers.specs.Rows.{has_counter}
-use Rattle.route_table.specs.Rows.{Table, is_same, table_of, targets_of, refusal_of}
-use Rattle.route_table.specs.Pins.{gsi_of, has_pin}
+use Rattle.route_table.specs.Rows.{is_same, table_of, targets_of, refusal_of}
+use Rattle.route_table.specs.Pins.{gsi_of}
 use Rattle.board_model.specs.Registry.{RegistryPart}
-use Rattle.board_model.specs.Routing.{Routing, routing_of_registry}
-use Rattle.board_model.specs.Published.{IsSoundTable, IsSoundIrqfd}
+use Rattle.board_model.specs.Routing.{routing_of_registry}
+use Rattle.board_model.specs.Published.{IsSoundIrqfd}
 use Rattle.board_model.specs.Board.{Board}
-use Rattle.board_model.specs.Plan.{Plan, done, reply, ◌>>=◌, ◌>>◌}
+use Rattle.board_model.specs.Plan.{reply, ◌>>◌}
 use Rattle.board_model.specs.Run.{Wishes, run}
 use Rattle.board_raise.specs.Fit.{IrqfdFits}
-use Rattle.board_raise.specs.Signal.{let_go_pic, let_go_ioapic, let_go}
+use Rattle.board_raise.specs.Signal.{let_go_pic, let_go_ioapic}
 use Rattle.board_step.specs.Laws.{PayloadFits}
 use Rattle.board_step.specs.Refusals.{is_trigger, has_resample, is_signalled}
 use Rattle.board_step.specs.Registrations.{was_last_resampler, release, deassigned, deassign, is_same_gsi, keeps_gsi, kept_holds, reroute}
 use Rattle.board_step.specs.Sound.{HasResampler, HoldsStand}
 use Rattle.board_step.proofs.SoundHolds.{was_held, not_removed, retained}
-use Rattle.board_step.proofs.SoundPlans.{Fine, Each}
+use Rattle.board_step.proofs.SoundPlans.{Each}
 use Rattle.board_step.proofs.SoundRegistry.{RegistryFine, target_of_gsi}
 use Rattle.board_step.proofs.SoundRows.{or_neither, or_both, any_fewer, none_fewer, named_gsi, resampler_stays, resamplers_stay}
 use Rattle.board_step.proofs.SoundChanges.{Whole, moved}
@@ -91,9 +91,9 @@ module _ (shape : Shape) (bound : ℕ) (b : Board) (ws : Wishes) (w : Whole shap
         distinct = record {
           triggers = AllPairs-filter (λ (a c : Irqfd). has_trigger a.trigger c ≡ false) keep rows w.fine.distinct.triggers;
           roles = All-filter keep (λ (i : Irqfd). is_signalled (without trigger gsi) i.trigger ≡ false) rows
-          (All-weaker (λ (i : Irqfd). is_signalled b.registry i.trigger ≡ false) (λ (i : Irqfd). is_signalled (without trigger gsi) i.trigger ≡ false)
-          (λ i off. let each = or_neither (list_any (has_resample i.trigger) rows) (has_counter b.registry.watches i.trigger) off in or_both (list_any (has_resample i.trigger) (filter keep rows)) (has_counter b.registry.watches i.trigger) (none_fewer (has_resample i.trigger) keep rows each.0) each.1)
-          rows w.fine.distinct.roles);
+              (All-weaker (λ (i : Irqfd). is_signalled b.registry i.trigger ≡ false) (λ (i : Irqfd). is_signalled (without trigger gsi) i.trigger ≡ false)
+              (λ i off. let each = or_neither (list_any (has_resample i.trigger) rows) (has_counter b.registry.watches i.trigger) off in or_both (list_any (has_resample i.trigger) (filter keep rows)) (has_counter b.registry.watches i.trigger) (none_fewer (has_resample i.trigger) keep rows each.0) each.1)
+              rows w.fine.distinct.roles);
           watches = w.fine.distinct.watches;
           watch_count = w.fine.distinct.watch_count;
           ioevents = w.fine.distinct.ioevents;
@@ -143,7 +143,7 @@ module _ (shape : Shape) (bound : ℕ) (b : Board) (ws : Wishes) (w : Whole shap
   freed_each trigger gsi parts.Ioapic = record {
     entries = (w.each parts.Ioapic).entries;
     holds = freed_stand b.registry (without trigger gsi) b.ioapic.holds 24 pins.Ioapic (targets_of b.registry.table gsi).ioapic gsi (w.each parts.Ioapic).holds
-    (λ n named. is_one (targets_of b.registry.table gsi).ioapic n (target_of_gsi b.registry.table w.fine.sound.table (pins.Ioapic n) gsi named)) (λ n h ne. other_resampler trigger gsi (pins.Ioapic n) h ne);
+        (λ n named. is_one (targets_of b.registry.table gsi).ioapic n (target_of_gsi b.registry.table w.fine.sound.table (pins.Ioapic n) gsi named)) (λ n h ne. other_resampler trigger gsi (pins.Ioapic n) h ne);
   }
   freed_each trigger gsi (parts.Lapic n) = w.each (parts.Lapic n)
 

@@ -1,5 +1,5 @@
 -- A board at power-on is sound.
-use Rattle.std.proofs.Common.{◌≡◌, ℕ, ◌+◌, ◌-◌, ◌^◌, ◌<◌, ◌≤◌, zero, suc, Bool, true, false, true≢false, List, [], ◌∷◌, ◌++◌, map, length, replicate, All, Some, None, refl, sym, ap, subst, ◌∙◌, arith, length-append}
+use Rattle.std.proofs.Common.{◌≡◌, ℕ, ◌+◌, ◌-◌, ◌^◌, ◌<◌, ◌≤◌, zero, suc, false, true≢false, List, [], ◌∷◌, ◌++◌, map, length, refl, sym, ap, subst, ◌∙◌, arith, length-append}
 use Rattle.std.specs.Prelude.{IsTrue, AllPairs, slice_get, unwrap_or}
 use Rattle.std.specs.FinSet as set
 use Rattle.std.specs.FinSet.{contains-empty}
@@ -7,7 +7,6 @@ use Rattle.std.proofs.lemmas.List.{length-replicate}
 use Rattle.std.proofs.lemmas.List.Elements.{All-nil, All-replicate}
 use Rattle.irq_base.specs.declared.event.Pin.{Pin}
 use Rattle.irq_base.specs.declared.message.Source.TheVariants.{Resample}
-use Rattle.irq_base.specs.declared.shape.Shape.{Shape}
 use Rattle.lapic.specs.Registers.{LocalApic, power_on}
 use Rattle.source_levels.specs.Holds.{Hold, hold, hold_cmp}
 use Rattle.irqfd_set.specs.declared.irqfds.Irqfd.{Irqfd}
@@ -16,13 +15,12 @@ use Rattle.ioevent_set.specs.declared.row.IoRow.{IoRow}
 use Rattle.irqfd_set.specs.Rows.{has_trigger}
 use Rattle.ack_notifiers.specs.Rows.{is_named}
 use Rattle.ioevent_set.specs.Rows.{do_collide}
-use Rattle.ioapic_82093aa.specs.Entries.{entry_at_power_on}
 use Rattle.board_model.specs.Registry.{RegistryPart}
 use Rattle.board_model.specs.Published.{IsSoundIrqfd}
-use Rattle.board_raise.specs.Fit.{InLimits, IrqfdFits, WatchFits}
+use Rattle.board_raise.specs.Fit.{IrqfdFits, WatchFits}
 use Rattle.board_raise.specs.Send.{numbers_below}
-use Rattle.board_step.specs.History.{opening_registry, opening}
-use Rattle.board_step.specs.Sound.{AreDistinct, HoldsStand, IsSound}
+use Rattle.board_step.specs.History.{opening_registry}
+use Rattle.board_step.specs.Sound.{HoldsStand}
 use Rattle.board_step.specs.Laws.{OpeningIsSound}
 use Rattle.board_step.proofs.SoundTable.{opening_table}
 

@@ -1,5 +1,5 @@
 -- A plan that minds what it writes leaves each part as a sound board has it.
-use Rattle.std.proofs.Common.{◌≡◌, ℕ, ◌≤◌, zero, suc, Bool, true, false, nat_eq, List, [], ◌∷◌, length, Some, None, refl, sym, ap, subst, ◌∙◌, arith}
+use Rattle.std.proofs.Common.{◌≡◌, ℕ, ◌≤◌, zero, suc, true, false, nat_eq, List, [], ◌∷◌, length, refl, ap, subst, ◌∙◌, arith}
 use Rattle.std.specs.Prelude.{slice_get, slice_set, unwrap_or}
 use Rattle.irq_base.specs.declared.event.Pin.TheVariants as pins
 use Rattle.irq_base.specs.declared.shape.Part.{Part}
@@ -8,7 +8,7 @@ use Rattle.irq_base.specs.declared.shape.Shape.{Shape}
 use Rattle.lapic.specs.Registers.{LocalApic, power_on}
 use Rattle.board_model.specs.Registry.{RegistryPart}
 use Rattle.board_model.specs.Chips.{IoapicPart}
-use Rattle.board_model.specs.Board.{ValueOf, Board, part_of, with_part, is_same}
+use Rattle.board_model.specs.Board.{ValueOf, Board, part_of, with_part}
 use Rattle.board_model.specs.Statuses.{Sent}
 use Rattle.board_model.specs.Plan.{Plan, done, look, put, tell, answer, choose, ◌>>=◌, ◌>>◌}
 use Rattle.board_model.specs.Run.{Wishes, next_wish, later_wishes, run}

@@ -1,6 +1,6 @@
 -- What a sound registry tells of triggers, of signalled counters and of pins.
-use Rattle.std.proofs.Common.{◌≡◌, ℕ, ◌<◌, Bool, true, false, true≢false, cond, ◌&&◌, ◌||◌, nat_eq, nat_lt, if◌then◌else◌, inl, inr, List, [], ◌∷◌, map, filter, All, Some, None, refl, sym, ap, subst, ◌∙◌, arith}
-use Rattle.std.specs.Prelude.{IsTrue, is_some, option_map, filter_map, find}
+use Rattle.std.proofs.Common.{◌≡◌, ℕ, ◌<◌, Bool, true, false, true≢false, cond, ◌&&◌, ◌||◌, nat_eq, if◌then◌else◌, List, [], ◌∷◌, map, filter, All, Some, None, refl, sym, ap, subst, ◌∙◌}
+use Rattle.std.specs.Prelude.{IsTrue, option_map, filter_map, find}
 use Rattle.std.specs.List.{list_any, cons_option}
 use Rattle.std.specs.Cmp.{first_so, second_so, unsigned_Decides}
 use Rattle.std.specs.declared.option.Option.{Option}
@@ -11,7 +11,6 @@ use Rattle.irq_base.specs.declared.event.Pin.TheVariants as pins
 use Rattle.irq_base.specs.declared.message.MsiWord.{MsiWord}
 use Rattle.irq_base.specs.declared.message.Source.{Source}
 use Rattle.irq_base.specs.declared.message.Source.TheVariants.{Resample}
-use Rattle.irq_base.specs.declared.message.Targets.{Targets}
 use Rattle.irq_base.specs.declared.shape.Shape.{Shape}
 use Rattle.irqfd_set.specs.declared.irqfds.Irqfd.{Irqfd}
 use Rattle.irqfd_set.specs.Rows.{has_trigger, resamples, of_trigger, has_resampler}
@@ -19,7 +18,7 @@ use Rattle.resampler.specs.Resample.{resample_of, resampled}
 use Rattle.ack_notifiers.specs.declared.watches.Watch.{Watch}
 use Rattle.ack_notifiers.specs.Rows.{watched, has_counter}
 use Rattle.route_table.specs.Words.{is_below, is_route_of}
-use Rattle.route_table.specs.Rows.{Table, is_same, targets_of, table_of}
+use Rattle.route_table.specs.Rows.{Table, is_same, targets_of}
 use Rattle.route_table.specs.Pins.{has_pin, gsi_of}
 use Rattle.route_table.specs.Sound.{sound_of}
 use Rattle.route_table.specs.TableLaws.{is_same-some}
@@ -30,7 +29,7 @@ use Rattle.board_model.specs.Routing.{trigger_of}
 use Rattle.board_model.specs.Published.{IsSoundTable, IsSoundRegistry}
 use Rattle.board_raise.specs.Fit.{RegistrationsFit}
 use Rattle.board_step.specs.Refusals.{is_trigger, is_counter, has_resample, is_signalled}
-use Rattle.board_step.specs.Sound.{AreDistinct, HasResampler}
+use Rattle.board_step.specs.Sound.{AreDistinct}
 use Rattle.board_step.proofs.SoundCounts.{NoTriggers}
 use Rattle.board_step.proofs.SoundSends.{MayHold}
 

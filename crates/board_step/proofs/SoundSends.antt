@@ -1,21 +1,18 @@
 -- Sendings and signals keep a sound board's parts.
-use Rattle.std.proofs.Common.{◌≡◌, ℕ, ◌<◌, Bool, true, false, not, ◌||◌, nat_eq, nat_lt, if◌then◌else◌, List, [], ◌∷◌, Some, None, refl, sym, ap, subst, ◌∙◌}
-use Rattle.std.specs.Prelude.{IsTrue, is_some}
+use Rattle.std.proofs.Common.{◌≡◌, ℕ, ◌<◌, Bool, true, false, not, nat_lt, if◌then◌else◌, List, [], ◌∷◌, Some, None, refl, ◌∙◌}
 use Rattle.std.specs.declared.option.Option.{Option}
 use Rattle.std.specs.FinSet as set
-use Rattle.irq_bits.specs.Members.{Numbers, is_set}
-use Rattle.irq_base.specs.declared.event.Pin.{Pin}
+use Rattle.irq_bits.specs.Members.{Numbers}
 use Rattle.irq_base.specs.declared.event.Pin.TheVariants as pins
 use Rattle.irq_base.specs.declared.message.Message.{Message}
 use Rattle.irq_base.specs.declared.message.MsiWord.{MsiWord}
 use Rattle.irq_base.specs.declared.message.Source.{Source}
 use Rattle.irq_base.specs.declared.message.Source.TheVariants.{Resample, Line, Pulse, Tick as TickSource}
 use Rattle.irq_base.specs.declared.message.Targets.{Targets}
-use Rattle.irq_base.specs.declared.shape.Part.TheVariants.{Registry, Counters, Tick, Pic, Ioapic, Lapic}
+use Rattle.irq_base.specs.declared.shape.Part.TheVariants.{Lapic}
 use Rattle.irq_base.specs.declared.shape.Shape.{Shape}
 use Rattle.irq_base.specs.declared.status.Cause.{Cause}
 use Rattle.irq_base.specs.declared.status.Cause.TheVariants.{NoProcessor, BadVector, Mode as BadMode}
-use Rattle.ioapic_82093aa.specs.declared.entry.Entry.{Entry}
 use Rattle.ioapic_82093aa.specs.declared.ioapic.Raise.{Raise}
 use Rattle.ioapic_82093aa.specs.declared.ioapic.Raise.TheVariants as raises
 use Rattle.ioapic_82093aa.specs.Pins.{raise_of}
@@ -23,18 +20,18 @@ use Rattle.lapic.specs.declared.outcome.Shorthand.{Shorthand}
 use Rattle.lapic.specs.Registers.{LocalApic, is_enabled}
 use Rattle.lapic.specs.Messages.{is_nmi, is_taken, accepted, with_error, with_request}
 use Rattle.msi_decode.specs.Messages.{message_in}
-use Rattle.source_levels.specs.Holds.{Hold, hold}
+use Rattle.source_levels.specs.Holds.{hold}
 use Rattle.board_model.specs.Registry.{RegistryPart}
-use Rattle.board_model.specs.Chips.{PicPart, IoapicPart, pair_of, ioapic_of}
-use Rattle.board_model.specs.Statuses.{Sent, TargetAnswer, message_answer}
+use Rattle.board_model.specs.Chips.{ioapic_of}
+use Rattle.board_model.specs.Statuses.{TargetAnswer, message_answer}
 use Rattle.board_model.specs.Plan.{About, injected, resent, ipi, the_reply, Plan, done, put, ◌>>=◌, ◌>>◌}
 use Rattle.board_model.specs.Following.{reached}
 use Rattle.board_raise.specs.Named.{Processor, named_by, numbers_of}
 use Rattle.board_raise.specs.Send.{show, ignore, reached_by, see_each, is_illegal, accept_each, deliver, refuse_vector, send_to, send}
-use Rattle.board_raise.specs.Signal.{raise_pic, is_accepted, accept_pin, ioapic_raised, ioapic_answered, raise_other, raise, let_go_pic, let_go_ioapic, let_go, lower, let_go_after, inject}
-use Rattle.board_step.specs.Sound.{HasResampler, HoldsStand}
+use Rattle.board_raise.specs.Signal.{raise_pic, is_accepted, accept_pin, ioapic_answered, raise_other, raise, let_go_pic, let_go_ioapic, let_go, lower, let_go_after, inject}
+use Rattle.board_step.specs.Sound.{HasResampler}
 use Rattle.board_step.proofs.SoundHolds.{hold_more, hold_less}
-use Rattle.board_step.proofs.SoundPlans.{IoapicFine, Minds, Keeps, minds_weaker, minds_bind, keeps_bind, keeps_then}
+use Rattle.board_step.proofs.SoundPlans.{Minds, Keeps, minds_bind, keeps_bind, keeps_then}
 use Rattle.std.proofs.Common.{length-set}
 
 -- a message leaves the number

@@ -1,8 +1,7 @@
 -- A step from a sound board leads to a sound board.
-use Rattle.std.proofs.Common.{◌≡◌, ℕ, ◌+◌, ◌^◌, ◌<◌, ◌≤◌, Bool, true, false, ◌&&◌, nat_eq, nat_lt, nat_le, if◌then◌else◌, List, [], ◌∷◌, length, Some, None, IfSome, refl, sym, ap, subst, ◌∙◌, arith}
-use Rattle.std.specs.Prelude.{is_some, not}
+use Rattle.std.proofs.Common.{◌≡◌, ℕ, ◌+◌, ◌<◌, ◌≤◌, Bool, true, false, All, ◌&&◌, nat_eq, nat_le, if◌then◌else◌, List, [], ◌∷◌, length, Some, None, IfSome, refl, sym, subst, ◌∙◌, arith}
 use Rattle.std.specs.declared.option.Option.{Option}
-use Rattle.irq_base.specs.Refusals.{Reason, first_of}
+use Rattle.irq_base.specs.Refusals.{first_of}
 use Rattle.irq_base.specs.declared.call.Call.{Call}
 use Rattle.irq_base.specs.declared.call.Call.TheVariants.{Line, Msi, Write, Take, Assign, Deassign, Reroute, Attach, Detach, Watch, Unwatch, Tick, TickMode, PortOut, PortIn, Store, Load, Ack, Inta, Eoi}
 use Rattle.irq_base.specs.declared.call.Caller.{Caller}
@@ -10,26 +9,27 @@ use Rattle.irq_base.specs.declared.lists.Entry.{Entry}
 use Rattle.irq_base.specs.declared.refusal.Refusal.TheVariants.{NoGsi, NoCounter, BadRange, ChipAddress}
 use Rattle.irq_base.specs.declared.reply.Spent.{Spent}
 use Rattle.irq_base.specs.declared.reply.Spent.TheVariants.{Calls, Publications}
-use Rattle.irq_base.specs.declared.shape.Part.{Part}
 use Rattle.irq_base.specs.declared.shape.Part.TheVariants as parts
 use Rattle.irq_base.specs.declared.shape.Shape.{Shape}
 use Rattle.tick_reinject.specs.declared.state.TickState.{TickState}
 use Rattle.tick_reinject.specs.Ticks.{ticked, tick_injects}
 use Rattle.board_model.specs.Registry.{RegistryPart}
 use Rattle.board_model.specs.Routing.{Routing, routing_of_registry}
-use Rattle.board_model.specs.Board.{ValueOf, Board, part_of}
-use Rattle.board_model.specs.Plan.{the_reply, Plan}
+use Rattle.board_model.specs.Board.{Board}
+use Rattle.board_model.specs.Plan.{the_reply}
 use Rattle.board_model.specs.Run.{Wishes, run}
 use Rattle.board_model.proofs.Staying.{frame_stays}
 use Rattle.board_raise.specs.Fit.{InLimits}
-use Rattle.board_step.specs.Laws.{IsTyped, StepsKeepSound}
+use Rattle.board_step.specs.Laws.{IsTyped, StepsKeepSound, HistoriesKeepSound}
+use Rattle.board_step.specs.History.{opening, Leads}
+use Rattle.board_step.proofs.SoundOpening.{opening_is_sound}
+use Rattle.std.proofs.lemmas.List.Elements.{All-head, All-tail}
 use Rattle.board_step.specs.Refusals.{range_reasons, bad_gsi, bad_counter, bad_resample, bad_ioevent, is_chip_address}
 use Rattle.board_step.specs.Ticks.{tick_or_hold}
 use Rattle.board_step.specs.Calls.{number_of, io_row, plan_in_range}
-use Rattle.board_step.specs.Step.{would_publish, spent_of, plan_on, outcome_of, with_counts, counted, Step}
-use Rattle.board_step.specs.Sound.{CountsStand, LapicsStand, IsSound}
-use Rattle.board_step.proofs.SoundCounts.{CountsFine}
-use Rattle.board_step.proofs.SoundPlans.{IoapicFine, Fine, Each, Minds, Keeps, each_with}
+use Rattle.board_step.specs.Step.{would_publish, plan_on, with_counts}
+use Rattle.board_step.specs.Sound.{IsSound}
+use Rattle.board_step.proofs.SoundPlans.{Each, Keeps, each_with}
 use Rattle.board_step.proofs.SoundRegistry.{RegistryFine}
 use Rattle.board_step.proofs.SoundAcks.{inject_tick_keeps}
 use Rattle.board_step.proofs.SoundCalls.{line_keeps, message_keeps, write_keeps, take_keeps, tick_mode_keeps, eoi_keeps, inta_keeps, next_keeps, port_out_keeps, port_in_keeps, store_keeps, load_keeps}
@@ -211,3 +211,11 @@ steps_keep_sound b e c s typed step =
     } in
     let after : Framed b o t o.shape o.length o.publications = subst (λ (x : Shape × ℕ × ℕ). Framed b o t x.0 x.1 x.2) (λ i. (sym frame.shape i, sym frame.length i, sym frame.publications i)) before in
     subst IsSound step.leads (sound_counted o t after.limits after.whole after.places after.calls after.publications)
+
+leads_to_sound : (b : Board) (es : List Entry) (last : Board) → IsSound b → All (λ (e : Entry). IsTyped e.call) es → Leads b es last → IsSound last
+leads_to_sound b [] last s typed same = subst IsSound same s
+leads_to_sound b (e ∷ es) last s typed (next, step, later) =
+    leads_to_sound next es last (steps_keep_sound b e next s (All-head (λ (x : Entry). IsTyped x.call) e es typed) step) (All-tail (λ (x : Entry). IsTyped x.call) e es typed) later
+
+pub histories_keep_sound : HistoriesKeepSound
+histories_keep_sound shape es last limits typed leads = leads_to_sound (opening shape) es last (opening_is_sound shape limits) typed leads

@@ -1,10 +1,9 @@
 -- The table of rows that keep the rules is sound where each payload has 32 bits.
-use Rattle.std.proofs.Common.{◌≡◌, ℕ, ◌<◌, ◌^◌, zero, suc, Bool, true, false, ◌&&◌, nat_lt, inl, inr, List, [], ◌∷◌, ◌++◌, length, get_or, set, replicate, All, Some, None, refl, sym, ap, subst, ◌∙◌, arith, append_assoc, append-nil, length-set}
+use Rattle.std.proofs.Common.{◌≡◌, ℕ, ◌<◌, ◌^◌, zero, suc, true, false, nat_lt, inl, inr, List, [], ◌∷◌, ◌++◌, length, get_or, set, replicate, All, Some, None, refl, sym, subst, ◌∙◌, arith, append_assoc, append-nil, length-set}
 use Rattle.std.proofs.lemmas.Bool.Decides.{nat_tests, leb_tells}
 use Rattle.std.proofs.lemmas.List.{get_or-replicate, get_or_past, length-replicate}
 use Rattle.std.proofs.lemmas.List.Elements.{All-nil, All-head, All-tail, All-push, All-append}
 use Rattle.std.specs.Prelude.{IsTrue}
-use Rattle.std.specs.Cmp.{first_so, second_so}
 use Rattle.std.specs.declared.option.Option.{Option}
 use Rattle.irq_base.specs.Refusals.{Reason, first_of}
 use Rattle.irq_base.specs.declared.call.Row.{Row}
@@ -16,7 +15,6 @@ use Rattle.route_table.specs.Standing.{with_owner, fits_if, word_with, Stands}
 use Rattle.route_table.specs.StandingLaws.{stands-snoc}
 use Rattle.route_table.specs.Sound.{no_reason, kept_of}
 use Rattle.route_table.specs.TableLaws.{table_in-rows}
-use Rattle.route_table.specs.Tables.{table_in}
 use Rattle.route_table.specs.Filled.{stands_none, sends_to_routes}
 use Rattle.route_table.specs.Defaults.{pic_rows, ioapic_rows, default_rows, default_rows-kept}
 use Rattle.board_model.specs.Published.{IsSoundTable}

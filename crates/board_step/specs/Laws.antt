@@ -2,9 +2,9 @@
 use Rattle.std.specs.Prelude.{◌≡◌, ◌^◌, ◌<◌, ◌≤◌, All, true, false, List, [], ◌∷◌, length, Some, None}
 use Rattle.irq_base.specs.Callers.{is_allowed}
 use Rattle.irq_base.specs.declared.call.Call.{Call}
-use Rattle.irq_base.specs.declared.call.Call.TheVariants.{Line, Msi as MsiCall, Write, Take, Assign, Deassign, Reroute, Attach, Detach, Watch, Unwatch, Tick, TickMode, PortOut, PortIn, Store, Load, Ack, Inta, Eoi}
+use Rattle.irq_base.specs.declared.call.Call.TheVariants.{Reroute}
 use Rattle.irq_base.specs.declared.call.Row.{Row}
-use Rattle.irq_base.specs.declared.call.Row.TheVariants.{Pic, Ioapic, Msi}
+use Rattle.irq_base.specs.declared.call.Row.TheVariants.{Msi}
 use Rattle.irq_base.specs.declared.call.Caller.{Caller}
 use Rattle.irq_base.specs.declared.event.Event.{Event}
 use Rattle.irq_base.specs.declared.lists.Entry.{Entry}
@@ -109,11 +109,15 @@ abbrev pub PayloadFits : Row → Type 0
 PayloadFits (Msi gsi address payload) = payload < 2 ^ 32
 PayloadFits _ = Unit {0}
 
--- the numbers of a call that no refusal bounds fit their types: these are the payloads of a routing table's rows
+-- the payloads of a routing table's rows, which no refusal bounds, have the 32 bits of their type
 abbrev pub IsTyped : Call → Type 0
 IsTyped (Reroute rows) = All PayloadFits rows
 IsTyped _ = Unit {0}
 
--- a step from a sound board, whose call is one that can be made, leads to one
+-- a step of a typed call from a sound board leads to one
 abbrev pub StepsKeepSound : Type 0
 StepsKeepSound = (b : Board) (e : Entry) (c : Board) → IsSound b → IsTyped e.call → Step b e c → IsSound c
+
+-- each board that typed calls lead to from one at power-on is sound, where its shape is in limits
+abbrev pub HistoriesKeepSound : Type 0
+HistoriesKeepSound = (shape : Shape) (es : List Entry) (last : Board) → InLimits shape → All (λ (e : Entry). IsTyped e.call) es → Leads (opening shape) es last → IsSound last

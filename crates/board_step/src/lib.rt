@@ -1,2 +1,6 @@
 //! What each call of a board does, as the one-thread board does it in one step, and what a legal history of calls is.
 #![tactic(auto)]
+
+mod sound;
+
+pub use sound::{histories_keep_sound, opening_is_sound, steps_keep_sound};
