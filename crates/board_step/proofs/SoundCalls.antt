@@ -10,7 +10,6 @@ use Rattle.irq_base.specs.declared.call.Space.TheVariants as spaces
 use Rattle.irq_base.specs.declared.message.Source.{Source}
 use Rattle.irq_base.specs.declared.message.Source.TheVariants.{Resample, Line, Pulse}
 use Rattle.irq_base.specs.declared.message.Targets.{Targets}
-use Rattle.irq_base.specs.declared.refusal.Refusal.{Refusal}
 use Rattle.irq_base.specs.declared.refusal.Refusal.TheVariants.{Over}
 use Rattle.irq_base.specs.declared.reply.Reply.{Reply}
 use Rattle.irq_base.specs.declared.reply.Reply.TheVariants.{Done, Value, Exit, Extint, Vector}
@@ -103,10 +102,6 @@ module _ (shape : Shape) (r : RegistryPart) (bound : ℕ) (fine : RegistryFine s
   if_keeps : {A : Type 0} (t : Bool) (m n : Plan A) → Keeps r shape bound m → Keeps r shape bound n → Keeps r shape bound (if t then m else n)
   if_keeps true m n h k = h
   if_keeps false m n h k = k
-
-  unless_keeps : (refusal : Option Refusal) (plan : Plan (Unit {0})) → (refusal ≡ None → Keeps r shape bound plan) → Keeps r shape bound (unless_refused refusal plan)
-  unless_keeps None plan h = h refl
-  unless_keeps (Some refusal) plan h = tt
 
   inject_only : (targets : Targets) (source : Source) (about : Option TargetAnswer → About) → MayHold r targets source → Keeps r shape bound {A = Unit {0}} (inject shape.cpus targets source about >>= (λ status. done tt))
   inject_only targets source about may = keeps_bind r shape bound (λ status. done tt) (inject shape.cpus targets source about) (inject_keeps r shape bound shape.cpus targets source about may) (λ _. tt)

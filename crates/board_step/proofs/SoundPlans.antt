@@ -100,14 +100,6 @@ module _ (r : RegistryPart) (shape : Shape) (bound : ℕ) where
   stays_fine Q (answer x rest) b ws h each = stays_fine Q rest b ws h each
   stays_fine Q (choose m about g k) b ws h each = stays_fine Q (k (g (next_wish ws))) b (later_wishes ws) (h (g (next_wish ws))) each
 
-  pub minds_weaker : {A : Type 0} (P Q : A → Type 0) → ((a : A) → P a → Q a) → (m : Plan A) → Minds P m → Minds Q m
-  minds_weaker P Q f (done a) h = f a h
-  minds_weaker P Q f (look p k) h = λ v fine. minds_weaker P Q f (k v) (h v fine)
-  minds_weaker P Q f (put p v rest) h = (h.0, minds_weaker P Q f rest h.1)
-  minds_weaker P Q f (tell x rest) h = minds_weaker P Q f rest h
-  minds_weaker P Q f (answer x rest) h = minds_weaker P Q f rest h
-  minds_weaker P Q f (choose m about g k) h = λ s. minds_weaker P Q f (k s) (h s)
-
   -- a plan and then another
   pub minds_bind : {A B : Type 0} (P : A → Type 0) (Q : B → Type 0) (f : A → Plan B) (m : Plan A) → Minds P m → ((a : A) → P a → Minds Q (f a)) → Minds Q (m >>= f)
   minds_bind P Q f (done a) h later = later a h

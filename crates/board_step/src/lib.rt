@@ -2,5 +2,7 @@
 #![tactic(auto)]
 
 mod sound;
+mod typed;
 
 pub use sound::{histories_keep_sound, opening_is_sound, steps_keep_sound};
+pub use typed::calls_are_typed;
