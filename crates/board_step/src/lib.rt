@@ -1,8 +1,17 @@
 //! What each call of a board does, as the one-thread board does it in one step, and what a legal history of calls is.
+//!
+//! Reading order of the definitions: `Refusals` (why a call is refused), `Registrations`, `Ticks`, `Processors` and `Accesses`
+//! (what each call does), `Calls` (all of them), `Step` (one call is one step), `Reach`, `Sound`, `History`, and then what holds
+//! of every step: `Laws`.
 #![tactic(auto)]
 
+mod laws;
 mod sound;
 mod typed;
 
+pub use laws::{
+    board_after_is_reached, calls_steadily, leads_to_one, refused_rightly, refuses_first,
+    words_stay,
+};
 pub use sound::{histories_keep_sound, opening_is_sound, steps_keep_sound};
 pub use typed::calls_are_typed;
