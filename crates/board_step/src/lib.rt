@@ -6,8 +6,12 @@
 #![tactic(auto)]
 
 mod laws;
+mod sound;
+mod typed;
 
 pub use laws::{
     board_after_is_reached, calls_steadily, leads_to_one, refused_rightly, refuses_first,
     words_stay,
 };
+pub use sound::{histories_keep_sound, opening_is_sound, steps_keep_sound};
+pub use typed::calls_are_typed;
