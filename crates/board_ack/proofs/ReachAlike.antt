@@ -1,5 +1,5 @@
 -- An acknowledge runs alike on boards that are alike.
-use Rattle.std.proofs.Common.{◌≡◌, ℕ, Bool, true, false, not, ◌&&◌, ◌||◌, nat_eq, nat_lt, ◌-◌, if◌then◌else◌, List, [], ◌∷◌, refl, sym, ap, ◌∙◌, subst, true≢false, Some, None}
+use Rattle.std.proofs.Common.{◌≡◌, ℕ, Bool, true, false, not, ◌&&◌, ◌||◌, nat_eq, nat_lt, ◌-◌, if◌then◌else◌, List, [], ◌∷◌, refl, sym, ◌∙◌, subst, Some, None}
 use Rattle.std.specs.declared.option.Option.{Option}
 use Rattle.irq_base.specs.declared.event.Event.{Event}
 use Rattle.irq_base.specs.declared.event.Pin.{Pin}
@@ -9,9 +9,9 @@ use Rattle.irq_base.specs.declared.message.MsiWord.{MsiWord}
 use Rattle.irq_base.specs.declared.message.Source.TheVariants as sources
 use Rattle.irq_base.specs.declared.message.Targets.{Targets}
 use Rattle.irq_base.specs.declared.shape.Part.{Part}
-use Rattle.irq_base.specs.declared.shape.Part.TheVariants.{Registry, Counters, Tick, Pic, Ioapic, Lapic}
+use Rattle.irq_base.specs.declared.shape.Part.TheVariants.{Counters, Tick, Ioapic, Lapic}
 use Rattle.irq_base.specs.declared.shape.Shape.{Shape}
-use Rattle.ioapic_82093aa.specs.Pins.{entry_at, acknowledged, resend_of, raise_of}
+use Rattle.ioapic_82093aa.specs.Pins.{entry_at, acknowledged, resend_of}
 use Rattle.irqfd_set.specs.Rows.{has_resampler}
 use Rattle.ack_notifiers.specs.Rows.{watched, watch_events}
 use Rattle.event_counter.specs.Counters.{signalled_all}
@@ -19,22 +19,19 @@ use Rattle.resampler.specs.Resample.{resampled, resample_events}
 use Rattle.tick_reinject.specs.declared.state.TickState.{TickState}
 use Rattle.tick_reinject.specs.Ticks.{tick_acked, tick_injected, ack_injects}
 use Rattle.irq_base.specs.declared.status.Status.{Status}
-use Rattle.board_model.specs.Board.{Board, part_of, with_part, is_same}
-use Rattle.board_model.specs.Chips.{IoapicPart, ioapic_of, with_ioapic}
+use Rattle.board_model.specs.Board.{Board, with_part}
+use Rattle.board_model.specs.Chips.{IoapicPart, ioapic_of}
 use Rattle.board_model.specs.Registry.{RegistryPart}
 use Rattle.board_model.specs.Routing.{Routing}
 use Rattle.board_model.specs.Statuses.{TargetAnswer}
-use Rattle.board_model.specs.Plan.{About, injected, resent, Plan, done, look, put, tell, answer, choose, see, set, change, say, ◌>>=◌, ◌>>◌}
+use Rattle.board_model.specs.Plan.{About, injected, resent, Plan, done, see, ◌>>◌}
 use Rattle.board_model.specs.Run.{Wishes, Outcome, run, reaches}
-use Rattle.board_model.proofs.Sequence.{run-bind, reaches-bind}
+use Rattle.board_model.proofs.Sequence.{reaches-bind}
 use Rattle.board_raise.specs.Send.{send}
 use Rattle.board_raise.specs.Signal.{is_accepted, accept_pin, let_go, inject}
-use Rattle.board_raise.specs.ReachLaws.{of_pin, of_answer, of_message, of_other, of_raise, SignalReaches}
-use Rattle.board_raise.proofs.Reaching.{or_false, absorbed, sends_reach}
-use Rattle.board_raise.proofs.SignalReach.{signals_reach_the_same}
-use Rattle.board_ack.specs.Acknowledge.{say_each, signal_each, see_concerned, resample, notify, resample_and_notify, tell_concerned, resend, clear_and_resend, end_level, end_tick, acknowledge, acknowledge_each}
+use Rattle.board_ack.specs.Acknowledge.{say_each, signal_each, see_concerned, resample, notify, resample_and_notify, tell_concerned, resend, clear_and_resend, end_level, end_tick, acknowledge}
 use Rattle.board_ack.specs.Ticks.{inject_tick, inject_next, acknowledge_tick}
-use Rattle.board_raise.proofs.ReachAlike.{Alike, alike_itself, alike_back, alike_on, alike_counters, alike_ioapic, alike_tick, EndsAlike, RunAlike, Whatever, alike-bind, done_alike, SameCause, send_alike, accepted_alike, accept_alike, let_go_alike, inject_alike}
+use Rattle.board_raise.proofs.ReachAlike.{alike_counters, alike_ioapic, alike_tick, EndsAlike, RunAlike, Whatever, alike-bind, done_alike, SameCause, send_alike, accepted_alike, accept_alike, let_go_alike, inject_alike}
 
 -- ---- an acknowledge on boards that are alike
 

@@ -1,5 +1,5 @@
 -- Boards that are alike to later sendings: which processors a message is given to makes no difference to what is reached.
-use Rattle.std.proofs.Common.{◌≡◌, ℕ, zero, suc, Bool, true, false, cond, not, ◌&&◌, nat_eq, nat_lt, if◌then◌else◌, List, [], ◌∷◌, slice_get, slice_set, unwrap_or, refl, sym, ap, ◌∙◌, subst, true≢false, Some, None}
+use Rattle.std.proofs.Common.{◌≡◌, ℕ, zero, suc, Bool, true, false, cond, not, nat_lt, if◌then◌else◌, List, [], ◌∷◌, slice_get, slice_set, unwrap_or, refl, sym, ap, ◌∙◌, subst, true≢false, Some, None}
 use Rattle.std.specs.declared.option.Option.{Option}
 use Rattle.std.specs.FinSet as set
 use Rattle.irq_bits.specs.Members.{Numbers}
@@ -20,9 +20,8 @@ use Rattle.lapic.specs.Registers.{LocalApic, power_on, is_enabled}
 use Rattle.lapic.specs.Messages.{is_nmi, is_taken, accepted, with_error, with_request}
 use Rattle.msi_decode.specs.Messages.{message_in}
 use Rattle.tick_reinject.specs.declared.state.TickState.{TickState}
-use Rattle.board_model.specs.Board.{ValueOf, Board, part_of, with_part}
+use Rattle.board_model.specs.Board.{Board, part_of, with_part}
 use Rattle.board_model.specs.Chips.{PicPart, IoapicPart, ioapic_of, with_ioapic}
-use Rattle.board_model.specs.Registry.{RegistryPart}
 use Rattle.board_model.specs.Statuses.{Sent, TargetAnswer, newly_taken, stood_already, no_effect, message_answer, is_empty}
 use Rattle.board_model.specs.Plan.{About, injected, resent, ipi, the_reply, Plan, done, put, ◌>>=◌, ◌>>◌}
 use Rattle.board_model.specs.Run.{Wishes, Outcome, next_wish, later_wishes, run, then_run}

@@ -1,41 +1,35 @@
 -- What an acknowledge reaches is what the table says, whatever is wished.
-use Rattle.std.proofs.Common.{◌≡◌, ℕ, Bool, true, false, not, ◌&&◌, ◌||◌, nat_eq, nat_lt, ◌-◌, if◌then◌else◌, List, [], ◌∷◌, refl, sym, ap, ◌∙◌, subst, true≢false, Some, None}
+use Rattle.std.proofs.Common.{◌≡◌, ℕ, Bool, true, false, ◌&&◌, ◌||◌, nat_eq, if◌then◌else◌, List, [], ◌∷◌, refl, sym, ap, ◌∙◌, subst, true≢false, Some, None}
 use Rattle.std.specs.declared.option.Option.{Option}
-use Rattle.irq_base.specs.declared.event.Event.{Event}
 use Rattle.irq_base.specs.declared.event.Pin.{Pin}
 use Rattle.irq_base.specs.declared.event.Pin.TheVariants as pins
 use Rattle.irq_base.specs.declared.message.Message.{Message}
 use Rattle.irq_base.specs.declared.message.MsiWord.{MsiWord}
 use Rattle.irq_base.specs.declared.message.Source.TheVariants as sources
-use Rattle.irq_base.specs.declared.message.Targets.{Targets}
 use Rattle.irq_base.specs.declared.shape.Part.{Part}
 use Rattle.irq_base.specs.declared.shape.Part.TheVariants.{Registry, Counters, Tick, Pic, Ioapic, Lapic}
 use Rattle.irq_base.specs.declared.shape.Shape.{Shape}
 use Rattle.ioapic_82093aa.specs.Pins.{entry_at, acknowledged, resend_of, raise_of}
-use Rattle.irqfd_set.specs.Rows.{has_resampler}
-use Rattle.tick_reinject.specs.declared.state.TickState.{TickState}
 use Rattle.tick_reinject.specs.Ticks.{tick_acked, tick_injected, ack_injects}
-use Rattle.irq_base.specs.declared.status.Status.{Status}
-use Rattle.board_model.specs.Board.{Board, part_of, with_part, is_same}
-use Rattle.board_model.specs.Chips.{IoapicPart, ioapic_of, with_ioapic}
-use Rattle.board_model.specs.Registry.{RegistryPart}
+use Rattle.board_model.specs.Board.{Board, with_part, is_same}
+use Rattle.board_model.specs.Chips.{ioapic_of}
 use Rattle.board_model.specs.Routing.{Routing}
 use Rattle.board_model.specs.Statuses.{TargetAnswer}
-use Rattle.board_model.specs.Plan.{About, injected, resent, Plan, done, look, put, tell, answer, choose, see, set, change, say, ◌>>=◌, ◌>>◌}
+use Rattle.board_model.specs.Plan.{About, injected, resent, Plan, done, change, ◌>>◌}
 use Rattle.board_model.specs.Run.{Wishes, Outcome, run, reaches}
 use Rattle.board_model.proofs.Sequence.{run-bind, reaches-bind}
 use Rattle.board_raise.specs.Send.{send}
-use Rattle.board_raise.specs.Signal.{is_accepted, accept_pin, let_go, inject}
-use Rattle.board_raise.specs.ReachLaws.{of_pin, of_answer, of_message, of_other, of_raise, SignalReaches}
-use Rattle.board_raise.proofs.Reaching.{or_false, absorbed, sends_reach}
+use Rattle.board_raise.specs.Signal.{is_accepted, accept_pin, inject}
+use Rattle.board_raise.specs.ReachLaws.{of_pin, of_answer, of_other}
+use Rattle.board_raise.proofs.Reaching.{or_false, sends_reach}
 use Rattle.board_raise.proofs.SignalReach.{signals_reach_the_same}
-use Rattle.board_ack.specs.Acknowledge.{say_each, signal_each, see_concerned, resample, notify, resample_and_notify, tell_concerned, resend, clear_and_resend, end_level, end_tick, acknowledge, acknowledge_each}
+use Rattle.board_ack.specs.Acknowledge.{resample_and_notify, tell_concerned, resend, clear_and_resend, end_level, end_tick, acknowledge, acknowledge_each}
 use Rattle.board_ack.specs.Ticks.{inject_tick, inject_next, acknowledge_tick}
-use Rattle.board_ack.proofs.ReachAlike.{tell_alike, level_alike, told_level_alike, injects_alike, acknowledge_alike, concerned_none}
+use Rattle.board_ack.proofs.ReachAlike.{tell_alike, told_level_alike, injects_alike, acknowledge_alike, concerned_none}
 use Rattle.board_step.specs.Reach as table
 use Rattle.board_step.specs.Reach.{board_by}
 use Rattle.board_step.specs.Processors.{end_vector, pins_with}
-use Rattle.board_raise.proofs.ReachAlike.{Alike, alike_itself, alike_back, alike_on, alike_counters, alike_ioapic, alike_tick, EndsAlike, RunAlike, Whatever, alike-bind, done_alike, SameCause, send_alike, accepted_alike, accept_alike, let_go_alike, inject_alike}
+use Rattle.board_raise.proofs.ReachAlike.{Alike, alike_itself, RunAlike, Whatever}
 
 module _ (routing : Routing) (shape : Shape) where
   -- ---- the table on boards that are alike

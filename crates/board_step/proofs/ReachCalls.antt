@@ -1,5 +1,5 @@
 -- What each call reaches is what the table says, whatever is wished.
-use Rattle.std.proofs.Common.{◌≡◌, ℕ, Bool, true, false, cond, not, ◌&&◌, ◌||◌, nat_eq, nat_lt, ◌-◌, if◌then◌else◌, List, [], ◌∷◌, ◌++◌, refl, sym, ap, ◌∙◌, true≢false, Some, None}
+use Rattle.std.proofs.Common.{◌≡◌, ℕ, Bool, true, false, cond, not, ◌&&◌, ◌||◌, nat_eq, nat_lt, ◌-◌, if◌then◌else◌, List, [], ◌∷◌, ◌++◌, refl, sym, ap, ◌∙◌, Some, None}
 use Rattle.std.specs.Prelude.{slice_index, is_some, ◌==◌}
 use Rattle.std.specs.List.{find}
 use Rattle.std.specs.declared.option.Option.{Option}
@@ -7,10 +7,8 @@ use Rattle.irq_bits.specs.Members.{greatest_vector}
 use Rattle.irq_base.specs.Refusals.{first_of}
 use Rattle.irq_base.specs.declared.call.Call.{Call}
 use Rattle.irq_base.specs.declared.call.Call.TheVariants as calls
-use Rattle.irq_base.specs.declared.call.Row.{Row}
 use Rattle.irq_base.specs.declared.call.Space.{Space}
 use Rattle.irq_base.specs.declared.call.Space.TheVariants as spaces
-use Rattle.irq_base.specs.declared.event.Event.TheVariants.{Rang}
 use Rattle.irq_base.specs.declared.event.Pin.{Pin}
 use Rattle.irq_base.specs.declared.message.Source.{Source}
 use Rattle.irq_base.specs.declared.message.Source.TheVariants as sources
@@ -22,7 +20,7 @@ use Rattle.irq_base.specs.declared.shape.Part.TheVariants.{Registry, Counters, T
 use Rattle.irq_base.specs.declared.shape.Shape.{Shape}
 use Rattle.pic_8259a.specs.declared.pair.Pair.{Pair}
 use Rattle.pic_8259a.specs.Accesses.{Effect, Read}
-use Rattle.pic_8259a.specs.Pair.{is_port, has_output, Cycle, cycle, write_to as pair_write_to, read_from as pair_read_from}
+use Rattle.pic_8259a.specs.Pair.{is_port, has_output, cycle, write_to as pair_write_to, read_from as pair_read_from}
 use Rattle.ioapic_82093aa.specs.declared.ioapic.Ioapic.{Ioapic as IoapicChip}
 use Rattle.ioapic_82093aa.specs.Pins.{Written, write_to, resend_of}
 use Rattle.lapic.specs.declared.outcome.Effect.TheVariants as effects
@@ -36,23 +34,21 @@ use Rattle.tick_reinject.specs.Ticks.{tick_injects, ticked}
 use Rattle.event_counter.specs.Counters.{taken, written}
 use Rattle.irqfd_set.specs.declared.irqfds.Irqfd.{Irqfd}
 use Rattle.irqfd_set.specs.Rows.{named_row, without_row, with_row}
-use Rattle.ioevent_set.specs.declared.row.IoRow.{IoRow}
 use Rattle.ioevent_set.specs.Rows.{rung_by}
 use Rattle.ioevent_set.specs.Rows as ioevents
 use Rattle.ack_notifiers.specs.Rows as watches
 use Rattle.board_model.specs.declared.trigger.TriggerWord.{TriggerWord}
 use Rattle.board_model.specs.Board.{Board, part_of, with_part, is_same}
 use Rattle.board_model.specs.Chips.{PicPart, pair_of, with_pair, IoapicPart, ioapic_of, with_ioapic}
-use Rattle.board_model.specs.Registry.{RegistryPart}
 use Rattle.board_model.specs.Routing.{Routing, routing_of_registry}
 use Rattle.board_model.specs.Statuses.{TargetAnswer}
-use Rattle.board_model.specs.Plan.{About, injected, ipi, the_reply, Plan, done, put, see, set, change, say, reply, ◌>>=◌, ◌>>◌}
-use Rattle.board_model.specs.Run.{Wishes, run, reaches}
+use Rattle.board_model.specs.Plan.{About, injected, ipi, the_reply, Plan, done, set, reply, ◌>>=◌, ◌>>◌}
+use Rattle.board_model.specs.Run.{Wishes, reaches}
 use Rattle.board_model.proofs.Sequence.{reaches-bind}
 use Rattle.board_raise.specs.Send.{send}
-use Rattle.board_raise.specs.Signal.{raise, lower, inject, let_go}
+use Rattle.board_raise.specs.Signal.{raise, inject, let_go}
 use Rattle.board_raise.specs.ReachLaws.{of_message, of_fall}
-use Rattle.board_raise.proofs.Reaching.{or_false, absorbed, sends_reach}
+use Rattle.board_raise.proofs.Reaching.{or_false, sends_reach}
 use Rattle.board_raise.proofs.SignalReach.{signals_reach_the_same}
 use Rattle.board_raise.proofs.ReachAlike.{heard_of, Alike, alike_lapic}
 use Rattle.board_ack.specs.Acknowledge.{acknowledge_each}
@@ -64,9 +60,8 @@ use Rattle.board_step.specs.Ticks.{tick_or_hold}
 use Rattle.board_step.specs.Processors.{end_vector, pic_pin, cycle_pins, cycle_made, hears_pair, give, give_of_pair, take_nmi}
 use Rattle.board_step.specs.Accesses as accesses
 use Rattle.board_step.specs.Calls.{io_row, number_of, plan_in_range}
-use Rattle.board_step.specs.Step.{plan_on}
 use Rattle.board_step.specs.Laws.{ReachIsTable}
-use Rattle.board_step.proofs.ReachAcknowledge.{gsi_same, each_same, end_same, twice, one_part, resend_reach, inject_tick_reach, each_reach, end_reach}
+use Rattle.board_step.proofs.ReachAcknowledge.{gsi_same, each_same, end_same, twice, resend_reach, inject_tick_reach, each_reach, end_reach}
 
 -- ---- truth values
 
