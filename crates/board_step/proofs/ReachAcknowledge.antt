@@ -28,8 +28,24 @@ use Rattle.board_ack.specs.Ticks.{inject_tick, inject_next, acknowledge_tick}
 use Rattle.board_ack.proofs.ReachAlike.{tell_alike, told_level_alike, injects_alike, acknowledge_alike, concerned_none}
 use Rattle.board_step.specs.Reach as table
 use Rattle.board_step.specs.Reach.{board_by}
-use Rattle.board_step.specs.Processors.{end_vector, pins_with}
 use Rattle.board_raise.proofs.ReachAlike.{Alike, alike_itself, RunAlike, Whatever}
+
+-- ---- truth values
+
+-- more of what is reached already
+pub more_of : (i m r : Bool) → (r ≡ true → i ≡ true) → (i || (m || r)) ≡ (i || m)
+more_of true m r f = refl
+more_of false m true f = absurd (true≢false (sym (f refl)))
+more_of false m false f = or_false m
+
+pub twice : (a r : Bool) → (a || (a || r)) ≡ (a || r)
+twice true r = refl
+twice false r = refl
+
+-- to change one part reaches it at most
+pub one_part : (a : Bool) → (a || (a || false)) ≡ true → a ≡ true
+one_part true h = refl
+one_part false h = h
 
 module _ (routing : Routing) (shape : Shape) where
   -- ---- the table on boards that are alike
@@ -63,29 +79,9 @@ module _ (routing : Routing) (shape : Shape) where
   each_same [] b c q h = refl
   each_same (pin ∷ acked) b c q h = λ i. acknowledge_same b c pin q h i || each_same acked (run (acknowledge routing shape pin) b []).board (run (acknowledge routing shape pin) c []).board q (by_alike (acknowledge routing shape pin) (acknowledge_alike routing shape pin) [] h) i
 
-  pub end_same : (b c : Board) (vector : Option ℕ) (q : Part) → Alike b c → table.of_end routing shape b vector q ≡ table.of_end routing shape c vector q
-  end_same b c None q h = refl
-  end_same b c (Some vector) q h =
-      ap (λ r. is_same Ioapic q || r) (ap (λ part. table.of_acknowledge_each routing shape b (pins_with (ioapic_of part) vector) q) h.ioapic ∙ each_same (pins_with (ioapic_of c.ioapic) vector) b c q h)
-
   -- ---- what the steps of an acknowledge reach
 
   module _ (q : Part) where
-    -- more of what is reached already
-    pub more_of : (i m r : Bool) → (r ≡ true → i ≡ true) → (i || (m || r)) ≡ (i || m)
-    more_of true m r f = refl
-    more_of false m true f = absurd (true≢false (sym (f refl)))
-    more_of false m false f = or_false m
-
-    pub twice : (a r : Bool) → (a || (a || r)) ≡ (a || r)
-    twice true r = refl
-    twice false r = refl
-
-    -- to change one part reaches it at most
-    pub one_part : (a : Bool) → (a || (a || false)) ≡ true → a ≡ true
-    one_part true h = refl
-    one_part false h = h
-
     accept_reach : (pin : ℕ) (t : Bool) (b : Board) (ws : Wishes) → reaches (accept_pin pin t) b ws q ≡ true → is_same Ioapic q ≡ true
     accept_reach pin true b ws h = one_part _ h
     accept_reach pin false b ws h = absurd (true≢false (sym h))
@@ -178,7 +174,3 @@ module _ (routing : Routing) (shape : Shape) where
       reaches-bind (λ _. acknowledge_each routing shape acked) (acknowledge routing shape pin) b ws q
       ∙ (λ i. acknowledge_reach pin b ws q i || (each_reach acked (run (acknowledge routing shape pin) b ws).board (run (acknowledge routing shape pin) b ws).wishes q
       ∙ each_same acked (run (acknowledge routing shape pin) b ws).board (board_by (acknowledge routing shape pin) b) q (by_alike (acknowledge routing shape pin) (acknowledge_alike routing shape pin) ws (alike_itself b))) i)
-
-  pub end_reach : (vector : Option ℕ) (b : Board) (ws : Wishes) (q : Part) → reaches (end_vector routing shape vector) b ws q ≡ table.of_end routing shape b vector q
-  end_reach None b ws q = refl
-  end_reach (Some vector) b ws q = ap (λ r. is_same Ioapic q || r) (each_reach (pins_with (ioapic_of b.ioapic) vector) b ws q)
