@@ -1,1 +1,2 @@
 pub mod ReachAlike
+pub mod ReachAcknowledge

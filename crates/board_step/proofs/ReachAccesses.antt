@@ -40,12 +40,13 @@ use Rattle.board_raise.proofs.Reaching.{or_false, sends_reach}
 use Rattle.board_raise.proofs.SignalReach.{signals_reach_the_same}
 use Rattle.board_raise.proofs.ReachAlike.{heard_of, Alike, alike_lapic}
 use Rattle.board_ack.specs.Acknowledge.{acknowledge_each}
+use Rattle.board_ack.specs.ReachLaws as acks
 use Rattle.board_step.specs.Reach as table
 use Rattle.board_step.specs.Refusals.{is_ioapic_address, is_lapic_address}
 use Rattle.board_step.specs.Registrations.{unless_refused, source_of}
 use Rattle.board_step.specs.Processors.{pins_with, end_vector, pic_pin}
 use Rattle.board_step.specs.Accesses as accesses
-use Rattle.board_step.proofs.ReachAcknowledge.{each_same, twice, resend_reach, each_reach}
+use Rattle.board_ack.proofs.ReachAcknowledge.{each_same, twice, resend_reach, each_reach}
 
 -- ---- what is found in a list
 
@@ -104,7 +105,7 @@ module _ (q : Part) where
   within_one false (Some refusal) m b ws same = refl
 
 module _ (routing : Routing) (shape : Shape) (q : Part) where
-  pub inject_reach : (gsi : ℕ) (source : Source) (about : Option TargetAnswer → About) (b : Board) (ws : Wishes) → reaches (inject shape.cpus (routing.targets gsi) source about) b ws q ≡ table.of_gsi routing shape b gsi q
+  pub inject_reach : (gsi : ℕ) (source : Source) (about : Option TargetAnswer → About) (b : Board) (ws : Wishes) → reaches (inject shape.cpus (routing.targets gsi) source about) b ws q ≡ acks.of_gsi routing shape b gsi q
   inject_reach gsi source about b ws = (signals_reach_the_same shape.cpus (routing.targets gsi) source about b ws q).injected
 
   -- ---- accesses to the pair
@@ -114,20 +115,20 @@ module _ (routing : Routing) (shape : Shape) (q : Part) where
 
   -- the pair is written, and pins are acknowledged
   written_reach : (pic : PicPart) (acked : List Pin) (b : Board) (ws : Wishes) → (is_same Pic q || (is_same Pic q || reaches (acknowledge_each routing shape acked) (with_part b Pic pic) ws q))
-      ≡ (is_same Pic q || table.of_acknowledge_each routing shape b acked q)
+      ≡ (is_same Pic q || acks.of_acknowledge_each routing shape b acked q)
   written_reach pic acked b ws =
       twice (is_same Pic q) _
       ∙ ap (λ x. is_same Pic q || x) (each_reach routing shape acked (with_part b Pic pic) ws q ∙ each_same routing shape acked (with_part b Pic pic) b q (alike_but_pic b pic))
 
   -- and then there is a reply
   pub answered_reach : (pic : PicPart) (acked : List Pin) (r : Reply) (b : Board) (ws : Wishes) → (is_same Pic q || (is_same Pic q || reaches (acknowledge_each routing shape acked >> reply r) (with_part b Pic pic) ws q))
-      ≡ (is_same Pic q || table.of_acknowledge_each routing shape b acked q)
+      ≡ (is_same Pic q || acks.of_acknowledge_each routing shape b acked q)
   answered_reach pic acked r b ws = ap (λ x. is_same Pic q || (is_same Pic q || x)) (replied q (acknowledge_each routing shape acked) r (with_part b Pic pic) ws) ∙ written_reach pic acked b ws
 
   pair_write_reach : (port len value : ℕ) (b : Board) (ws : Wishes) → reaches (accesses.pair_write routing shape port len value) b ws q ≡ table.of_pair routing shape b len (pair_write_to (pair_of b.pic) port value).pin q
   pair_write_reach port len value b ws =
       ap (λ x. is_same Pic q || x) (replied q (if nat_eq len 1 then accesses.pair_written routing shape b.pic effect else done tt) Done b ws)
-      ∙ (elim (nat_eq len 1) as (λ t. (is_same Pic q || reaches (if t then accesses.pair_written routing shape b.pic effect else done tt) b ws q) ≡ (is_same Pic q || (t && table.of_acknowledge_each routing shape b (pic_pin effect.pin) q))) [
+      ∙ (elim (nat_eq len 1) as (λ t. (is_same Pic q || reaches (if t then accesses.pair_written routing shape b.pic effect else done tt) b ws q) ≡ (is_same Pic q || (t && acks.of_acknowledge_each routing shape b (pic_pin effect.pin) q))) [
         | true ↦ written_reach (with_pair b.pic effect.after) (pic_pin effect.pin) b ws
         | false ↦ refl
       ])
@@ -136,7 +137,7 @@ module _ (routing : Routing) (shape : Shape) (q : Part) where
       effect = pair_write_to (pair_of b.pic) port value
 
   pair_read_reach : (port len : ℕ) (b : Board) (ws : Wishes) → reaches (accesses.pair_read routing shape port len) b ws q ≡ table.of_pair routing shape b len (pair_read_from (pair_of b.pic) port).pin q
-  pair_read_reach port len b ws = elim (nat_eq len 1) as (λ t. (is_same Pic q || reaches (if t then accesses.pair_gave routing shape b.pic gave else reply (Value 0)) b ws q) ≡ (is_same Pic q || (t && table.of_acknowledge_each routing shape b (pic_pin gave.pin) q))) [
+  pair_read_reach port len b ws = elim (nat_eq len 1) as (λ t. (is_same Pic q || reaches (if t then accesses.pair_gave routing shape b.pic gave else reply (Value 0)) b ws q) ≡ (is_same Pic q || (t && acks.of_acknowledge_each routing shape b (pic_pin gave.pin) q))) [
     | true ↦ answered_reach (with_pair b.pic gave.after) (pic_pin gave.pin) (Value gave.value) b ws
     | false ↦ refl
   ]
@@ -199,7 +200,7 @@ module _ (routing : Routing) (shape : Shape) (q : Part) where
   pub end_same : (b c : Board) (vector : Option ℕ) (q : Part) → Alike b c → table.of_end routing shape b vector q ≡ table.of_end routing shape c vector q
   end_same b c None q h = refl
   end_same b c (Some vector) q h =
-      ap (λ r. is_same Ioapic q || r) (ap (λ part. table.of_acknowledge_each routing shape b (pins_with (ioapic_of part) vector) q) h.ioapic ∙ each_same routing shape (pins_with (ioapic_of c.ioapic) vector) b c q h)
+      ap (λ r. is_same Ioapic q || r) (ap (λ part. acks.of_acknowledge_each routing shape b (pins_with (ioapic_of part) vector) q) h.ioapic ∙ each_same routing shape (pins_with (ioapic_of c.ioapic) vector) b c q h)
 
   pub end_reach : (vector : Option ℕ) (b : Board) (ws : Wishes) (q : Part) → reaches (end_vector routing shape vector) b ws q ≡ table.of_end routing shape b vector q
   end_reach None b ws q = refl

@@ -34,6 +34,7 @@ use Rattle.board_raise.specs.Signal.{raise, inject, let_go}
 use Rattle.board_raise.specs.ReachLaws.{of_message, of_fall}
 use Rattle.board_raise.proofs.Reaching.{or_false, sends_reach}
 use Rattle.board_raise.proofs.SignalReach.{signals_reach_the_same}
+use Rattle.board_ack.specs.ReachLaws as acks
 use Rattle.board_step.specs.Reach as table
 use Rattle.board_step.specs.Refusals.{assign_reasons, write_reasons, attach_reasons, detach_reasons, watch_reasons, unwatch_reasons, range_reasons}
 use Rattle.board_step.specs.Registrations as registrations
@@ -42,7 +43,7 @@ use Rattle.board_step.specs.Ticks.{tick_or_hold}
 use Rattle.board_step.specs.Processors.{end_vector, cycle_pins, cycle_made, hears_pair, give, give_of_pair, take_nmi}
 use Rattle.board_step.specs.Calls.{io_row, number_of, plan_in_range}
 use Rattle.board_step.specs.Laws.{ReachIsTable}
-use Rattle.board_step.proofs.ReachAcknowledge.{gsi_same, twice, inject_tick_reach}
+use Rattle.board_ack.proofs.ReachAcknowledge.{gsi_same, twice, inject_tick_reach}
 use Rattle.board_step.proofs.ReachAccesses.{dropped, replied, refused_reach, within_one, inject_reach, answered_reach, port_out_reach, port_in_reach, ended_reach, store_reach, load_reach}
 
 -- ---- truth values
@@ -78,7 +79,7 @@ module _ (routing : Routing) (shape : Shape) (q : Part) where
 
   write_reach : (trigger : Option TriggerWord) (counter count : ℕ) (b : Board) (ws : Wishes) → reaches (registrations.write routing shape trigger counter count) b ws q ≡ table.of_write routing shape b trigger count q
   write_reach None counter count b ws = within_one q (is_same Counters q) (first_of (write_reasons b.counters counter count)) (set Counters (written b.counters counter count) >> reply Done) b ws refl
-  write_reach (Some trigger) counter count b ws = elim (nat_eq count 0) as (λ t. reaches (if t then reply Done else registrations.trigger_written routing shape trigger) b ws q ≡ (not t && table.of_gsi routing shape b trigger.gsi q)) [
+  write_reach (Some trigger) counter count b ws = elim (nat_eq count 0) as (λ t. reaches (if t then reply Done else registrations.trigger_written routing shape trigger) b ws q ≡ (not t && acks.of_gsi routing shape b trigger.gsi q)) [
     | true ↦ refl
     | false ↦
         dropped q (inject shape.cpus (routing.targets trigger.gsi) (source_of trigger.resample) (λ pic. the_reply pic)) b ws
@@ -87,7 +88,7 @@ module _ (routing : Routing) (shape : Shape) (q : Part) where
 
   -- ---- registrations
 
-  count_reach : (gsi : ℕ) (resample : Option ℕ) (t : Bool) (b : Board) (ws : Wishes) → reaches (inject_count routing shape gsi resample t >> reply Done) b ws q ≡ (t && table.of_gsi routing shape b gsi q)
+  count_reach : (gsi : ℕ) (resample : Option ℕ) (t : Bool) (b : Board) (ws : Wishes) → reaches (inject_count routing shape gsi resample t >> reply Done) b ws q ≡ (t && acks.of_gsi routing shape b gsi q)
   count_reach gsi resample true b ws =
       replied q (inject_count routing shape gsi resample true) Done b ws
       ∙ dropped q (inject shape.cpus (routing.targets gsi) (source_of (is_some resample)) (λ pic. injected gsi pic)) b ws
@@ -95,7 +96,7 @@ module _ (routing : Routing) (shape : Shape) (q : Part) where
   count_reach gsi resample false b ws = refl
 
   assign_reach : (trigger gsi : ℕ) (resample : Option ℕ) (b : Board) (ws : Wishes) → reaches (registrations.assign routing shape trigger gsi resample) b ws q
-      ≡ (is_same Registry q || (is_same Counters q || (table.does_inject routing shape b trigger resample && table.of_gsi routing shape b gsi q)))
+      ≡ (is_same Registry q || (is_same Counters q || (table.does_inject routing shape b trigger resample && acks.of_gsi routing shape b gsi q)))
   assign_reach trigger gsi resample b ws = by_reason (first_of (assign_reasons b.registry trigger resample))
     where
       has_count : Bool
@@ -105,7 +106,7 @@ module _ (routing : Routing) (shape : Shape) (q : Part) where
       later = with_part (with_part b Registry (record b.registry { irqfds = with_row b.registry.irqfds trigger gsi resample })) Counters (taken b.counters trigger)
 
       by_reason : (r : Option Refusal) → (is_same Registry q || (is_same Counters q || reaches (unless_refused r (assigned routing shape b.registry b.counters trigger gsi resample)) b ws q))
-          ≡ (is_same Registry q || (is_same Counters q || ((not (is_some r) && has_count) && table.of_gsi routing shape b gsi q)))
+          ≡ (is_same Registry q || (is_same Counters q || ((not (is_some r) && has_count) && acks.of_gsi routing shape b gsi q)))
       by_reason None =
           either_again (is_same Registry q) (is_same Counters q) _
           ∙ ap (λ x. is_same Registry q || (is_same Counters q || x)) (count_reach gsi resample has_count later ws ∙ ap (λ x. has_count && x) (gsi_same routing shape later b gsi q refl))
@@ -128,7 +129,7 @@ module _ (routing : Routing) (shape : Shape) (q : Part) where
   -- ---- ticks
 
   tick_reach : (t : Bool) (after : TickState) (b : Board) (ws : Wishes) → (is_same Tick q || (is_same Tick q || reaches (tick_or_hold routing shape after t) (with_part b Tick after) ws q))
-      ≡ (is_same Tick q || (t && table.of_gsi routing shape b shape.tick q))
+      ≡ (is_same Tick q || (t && acks.of_gsi routing shape b shape.tick q))
   tick_reach true after b ws =
       twice (is_same Tick q) _
       ∙ inject_tick_reach routing shape q (λ pic. the_reply pic) (with_part b Tick after) ws

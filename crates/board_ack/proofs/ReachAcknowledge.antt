@@ -26,8 +26,8 @@ use Rattle.board_raise.proofs.SignalReach.{signals_reach_the_same}
 use Rattle.board_ack.specs.Acknowledge.{resample_and_notify, tell_concerned, resend, clear_and_resend, end_level, end_tick, acknowledge, acknowledge_each}
 use Rattle.board_ack.specs.Ticks.{inject_tick, inject_next, acknowledge_tick}
 use Rattle.board_ack.proofs.ReachAlike.{tell_alike, told_level_alike, injects_alike, acknowledge_alike, concerned_none}
-use Rattle.board_step.specs.Reach as table
-use Rattle.board_step.specs.Reach.{board_by}
+use Rattle.board_ack.specs.ReachLaws as table
+use Rattle.board_ack.specs.ReachLaws.{board_by, AcknowledgesReachTheSame}
 use Rattle.board_raise.proofs.ReachAlike.{Alike, alike_itself, RunAlike, Whatever}
 
 -- ---- truth values
@@ -174,3 +174,6 @@ module _ (routing : Routing) (shape : Shape) where
       reaches-bind (λ _. acknowledge_each routing shape acked) (acknowledge routing shape pin) b ws q
       ∙ (λ i. acknowledge_reach pin b ws q i || (each_reach acked (run (acknowledge routing shape pin) b ws).board (run (acknowledge routing shape pin) b ws).wishes q
       ∙ each_same acked (run (acknowledge routing shape pin) b ws).board (board_by (acknowledge routing shape pin) b) q (by_alike (acknowledge routing shape pin) (acknowledge_alike routing shape pin) ws (alike_itself b))) i)
+
+pub acknowledges_reach_the_same : AcknowledgesReachTheSame
+acknowledges_reach_the_same routing shape b ws q = record { one = λ pin. acknowledge_reach routing shape pin b ws q; each = λ acked. each_reach routing shape acked b ws q }
