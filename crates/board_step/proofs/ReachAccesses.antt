@@ -1,7 +1,7 @@
 -- What accesses of the guest reach is what the table says, whatever is wished.
-use Rattle.std.proofs.Common.{◌≡◌, ℕ, Bool, true, false, cond, not, ◌&&◌, ◌||◌, nat_eq, ◌-◌, if◌then◌else◌, List, [], ◌∷◌, refl, ap, ◌∙◌, Some, None}
-use Rattle.std.specs.Prelude.{is_some, ◌==◌}
-use Rattle.std.specs.List.{find}
+use Rattle.std.proofs.Common.{◌≡◌, ℕ, Bool, true, false, cond, not, ◌&&◌, ◌||◌, nat_eq, ◌-◌, if◌then◌else◌, List, [], ◌∷◌, refl, ap, ◌∙◌, Some, None, true≢false, sym}
+use Rattle.std.specs.Prelude.{drop, is_some, ◌==◌}
+use Rattle.std.specs.List.{find, list_all}
 use Rattle.std.specs.declared.option.Option.{Option}
 use Rattle.irq_bits.specs.Members.{greatest_vector}
 use Rattle.irq_base.specs.declared.call.Call.TheVariants as calls
@@ -55,6 +55,20 @@ Each : {X : Type 0} → (X → Type 0) → List X → Type 0
 Each P [] = Unit {0}
 Each P (x ∷ xs) = P x × Each P xs
 
+-- it holds of each where a test tells it of each
+each_passing : {X : Type 0} (P : X → Type 0) (t : X → Bool) → ((x : X) → t x ≡ true → P x) → (xs : List X) → list_all t xs ≡ true → Each P xs
+unfolding Each
+each_passing P t told [] pass = tt
+each_passing P t told (x ∷ xs) pass = (told x (first (t x) (list_all t xs) pass), each_passing P t told xs (second (t x) (list_all t xs) pass))
+  where
+    first : (a b : Bool) → (a && b) ≡ true → a ≡ true
+    first true b h = refl
+    first false b h = h
+
+    second : (a b : Bool) → (a && b) ≡ true → b ≡ true
+    second true b h = h
+    second false b h = absurd (true≢false (sym h))
+
 -- it holds of the one that is found, or of none
 found_all : {X : Type 0} (P : Option X → Type 0) (p : X → Bool) (xs : List X) → P None → Each (λ x. P (Some x)) xs → P (find p xs)
 unfolding Each
@@ -73,12 +87,38 @@ HearsAfter a effects.Plain after = Unit {0}
 HearsAfter a (effects.Ended vector) after = heard_of after ≡ heard_of a
 HearsAfter a (effects.Send message) after = Unit {0}
 
+-- a store that ends no vector
+abbrev ends_none : LapicEffect → Bool
+ends_none effects.Plain = true
+ends_none (effects.Ended vector) = false
+ends_none (effects.Send message) = true
+
+hears_anyhow : (a : LocalApic) (effect : LapicEffect) (after : LocalApic) → ends_none effect ≡ true → HearsAfter a effect after
+hears_anyhow a effects.Plain after none = tt
+hears_anyhow a (effects.Ended vector) after none = absurd (true≢false (sym none))
+hears_anyhow a (effects.Send message) after none = tt
+
 -- of all registers the EOI register alone, the fifth, ends a vector
 hears_after : (a : LocalApic) (offset value : ℕ) → HearsAfter a (store_effect a offset value) (store_to a offset value)
 unfolding register_at all_registers Each
 hears_after a offset value =
-    found_all (λ register. HearsAfter a (effect_at a register value) (stored_at a register value)) (λ register. (row_for register).offset == offset) all_registers tt
-    (tt, (tt, (tt, (tt, (less_service a (greatest_vector a.isr), (tt, (tt, (tt, (tt, (tt, (tt, (tt, (tt, (tt, (tt, (tt, (tt, (tt, (tt, (tt, (tt, (tt, (tt, (tt, (tt, (tt, (tt, (tt, (tt, (tt, (tt, (tt, (tt, (tt, (tt, (tt, (tt, (tt, (tt, (tt, (tt, (tt, tt))))))))))))))))))))))))))))))))))))))))))
+    found_all (λ register. HearsAfter a (effect_at a register value) (stored_at a register value)) (λ register. (row_for register).offset == offset) all_registers tt (
+      tt,
+      (
+        tt,
+        (
+          tt,
+          (
+            tt,
+            (
+              less_service a (greatest_vector a.isr),
+              each_passing (λ register. HearsAfter a (effect_at a (Some register) value) (stored_at a (Some register) value)) (λ register. ends_none (effect_at a (Some register) value))
+                  (λ register none. hears_anyhow a (effect_at a (Some register) value) (stored_at a (Some register) value) none) (drop 5 all_registers) refl,
+            ),
+          ),
+        ),
+      ),
+    )
 
 module _ (q : Part) where
   -- ---- plans in sequence
