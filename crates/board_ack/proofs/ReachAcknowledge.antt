@@ -1,5 +1,5 @@
 -- What an acknowledge reaches is what the table says, whatever is wished.
-use Rattle.std.proofs.Common.{◌≡◌, ℕ, Bool, true, false, ◌&&◌, ◌||◌, nat_eq, if◌then◌else◌, List, [], ◌∷◌, refl, sym, ap, ◌∙◌, subst, true≢false, Some, None}
+use Rattle.std.proofs.Common.{◌≡◌, ℕ, Bool, true, false, ◌&&◌, ◌||◌, nat_eq, if◌then◌else◌, List, [], ◌∷◌, refl, ap, ◌∙◌, subst, Some, None}
 use Rattle.std.specs.declared.option.Option.{Option}
 use Rattle.irq_base.specs.declared.event.Pin.{Pin}
 use Rattle.irq_base.specs.declared.event.Pin.TheVariants as pins
@@ -21,8 +21,8 @@ use Rattle.board_model.proofs.Sequence.{run-bind, reaches-bind}
 use Rattle.board_raise.specs.Send.{send}
 use Rattle.board_raise.specs.Signal.{is_accepted, accept_pin, inject}
 use Rattle.board_raise.specs.ReachLaws.{of_pin, of_answer, of_other}
-use Rattle.board_raise.proofs.Reaching.{or_false, sends_reach}
-use Rattle.board_raise.proofs.SignalReach.{signals_reach_the_same}
+use Rattle.board_raise.proofs.Reaching.{sends_reach}
+use Rattle.board_raise.proofs.SignalReach.{accept_reach, more_of, signals_reach_the_same}
 use Rattle.board_ack.specs.Acknowledge.{resample_and_notify, tell_concerned, resend, clear_and_resend, end_level, end_tick, acknowledge, acknowledge_each}
 use Rattle.board_ack.specs.Ticks.{inject_tick, inject_next, acknowledge_tick}
 use Rattle.board_ack.proofs.ReachAlike.{tell_alike, told_level_alike, injects_alike, acknowledge_alike, concerned_none}
@@ -31,12 +31,6 @@ use Rattle.board_ack.specs.ReachLaws.{board_by, AcknowledgesReachTheSame}
 use Rattle.board_raise.proofs.ReachAlike.{Alike, alike_itself, RunAlike, Whatever}
 
 -- ---- truth values
-
--- more of what is reached already
-pub more_of : (i m r : Bool) → (r ≡ true → i ≡ true) → (i || (m || r)) ≡ (i || m)
-more_of true m r f = refl
-more_of false m true f = absurd (true≢false (sym (f refl)))
-more_of false m false f = or_false m
 
 pub twice : (a r : Bool) → (a || (a || r)) ≡ (a || r)
 twice true r = refl
@@ -82,15 +76,11 @@ module _ (routing : Routing) (shape : Shape) where
   -- ---- what the steps of an acknowledge reach
 
   module _ (q : Part) where
-    accept_reach : (pin : ℕ) (t : Bool) (b : Board) (ws : Wishes) → reaches (accept_pin pin t) b ws q ≡ true → is_same Ioapic q ≡ true
-    accept_reach pin true b ws h = one_part _ h
-    accept_reach pin false b ws h = absurd (true≢false (sym h))
-
     pub resend_reach : (pin : ℕ) (message : Option Message) (b : Board) (ws : Wishes) → (is_same Ioapic q || reaches (resend shape.cpus pin message) b ws q) ≡ (is_same Ioapic q || table.of_resend routing shape message q)
     resend_reach pin None b ws = refl
     resend_reach pin (Some message) b ws =
         ap (λ r. is_same Ioapic q || r) (reaches-bind (λ answer. accept_pin pin (is_accepted message answer)) (send shape.cpus message None (resent pin)) b ws q)
-        ∙ more_of _ _ _ (λ h. accept_reach pin _ _ _ h)
+        ∙ more_of q _ _ _ (λ h. accept_reach q pin _ _ _ h)
         ∙ ap (λ r. is_same Ioapic q || r) (sends_reach shape.cpus message None (resent pin) b ws q)
 
     level_reach : (pin : Pin) (b : Board) (ws : Wishes) → reaches (end_level shape.cpus pin) b ws q ≡ table.of_level routing shape b pin q
@@ -106,7 +96,7 @@ module _ (routing : Routing) (shape : Shape) where
     pub inject_tick_reach : (about : Option TargetAnswer → About) (b : Board) (ws : Wishes) → (is_same Tick q || reaches (inject_tick routing shape about) b ws q) ≡ (is_same Tick q || table.of_gsi routing shape b shape.tick q)
     inject_tick_reach about b ws =
         ap (λ r. is_same Tick q || r) (reaches-bind (λ status. change Tick (λ tick. tick_injected tick status)) (inject shape.cpus (routing.targets shape.tick) sources.Tick about) b ws q)
-        ∙ more_of (is_same Tick q) (reaches (inject shape.cpus (routing.targets shape.tick) sources.Tick about) b ws q) (is_same Tick q || (is_same Tick q || false)) (one_part (is_same Tick q))
+        ∙ more_of q (is_same Tick q) (reaches (inject shape.cpus (routing.targets shape.tick) sources.Tick about) b ws q) (is_same Tick q || (is_same Tick q || false)) (one_part (is_same Tick q))
         ∙ ap (λ r. is_same Tick q || r) (inject_reach shape.tick b ws about)
 
     next_reach : (t : Bool) (b : Board) (ws : Wishes) → (is_same Tick q || reaches (inject_next routing shape t) b ws q) ≡ (is_same Tick q || (t && table.of_gsi routing shape b shape.tick q))

@@ -102,23 +102,13 @@ hears_anyhow a (effects.Send message) after none = tt
 hears_after : (a : LocalApic) (offset value : ℕ) → HearsAfter a (store_effect a offset value) (store_to a offset value)
 unfolding register_at all_registers Each
 hears_after a offset value =
-    found_all (λ register. HearsAfter a (effect_at a register value) (stored_at a register value)) (λ register. (row_for register).offset == offset) all_registers tt (
-      tt,
-      (
-        tt,
-        (
-          tt,
-          (
-            tt,
-            (
-              less_service a (greatest_vector a.isr),
-              each_passing (λ register. HearsAfter a (effect_at a (Some register) value) (stored_at a (Some register) value)) (λ register. ends_none (effect_at a (Some register) value))
-                  (λ register none. hears_anyhow a (effect_at a (Some register) value) (stored_at a (Some register) value) none) (drop 5 all_registers) refl,
-            ),
-          ),
-        ),
-      ),
-    )
+    found_all (λ register. HearsAfter a (effect_at a register value) (stored_at a register value)) (λ register. (row_for register).offset == offset) all_registers tt
+    (tt, (tt, (tt, (tt, (less_service a (greatest_vector a.isr), later)))))
+  where
+    later : Each (λ register. HearsAfter a (effect_at a (Some register) value) (stored_at a (Some register) value)) (drop 5 all_registers)
+    later =
+        each_passing (λ register. HearsAfter a (effect_at a (Some register) value) (stored_at a (Some register) value)) (λ register. ends_none (effect_at a (Some register) value))
+        (λ register none. hears_anyhow a (effect_at a (Some register) value) (stored_at a (Some register) value) none) (drop 5 all_registers) refl
 
 module _ (q : Part) where
   -- ---- plans in sequence
