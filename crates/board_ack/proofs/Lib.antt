@@ -1,1 +1,3 @@
 pub mod AcknowledgeSteady
+pub mod ReachAlike
+pub mod ReachAcknowledge

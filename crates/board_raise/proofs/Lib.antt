@@ -3,6 +3,7 @@ pub mod SendExactly
 pub mod Pins
 pub mod Reaching
 pub mod SignalReach
+pub mod ReachAlike
 pub mod Illegal
 pub mod Steady
 pub mod Publishing

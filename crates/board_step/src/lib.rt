@@ -6,6 +6,7 @@
 #![tactic(auto)]
 
 mod laws;
+mod reach;
 mod sound;
 mod typed;
 
@@ -13,5 +14,6 @@ pub use laws::{
     board_after_is_reached, calls_steadily, leads_to_one, refused_rightly, refuses_first,
     words_stay,
 };
+pub use reach::{depends_on_reach, reach_is_table, stays_outside_reach};
 pub use sound::{histories_keep_sound, opening_is_sound, steps_keep_sound};
 pub use typed::calls_are_typed;
