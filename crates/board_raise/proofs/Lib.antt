@@ -5,3 +5,4 @@ pub mod Reaching
 pub mod SignalReach
 pub mod Illegal
 pub mod Steady
+pub mod Counting

@@ -1,2 +1,10 @@
 //! What each call of a board does, as the one-thread board does it in one step, and what a legal history of calls is.
 #![tactic(auto)]
+
+ghost use Rattle.board_step.specs.Laws.{AnswersOnce};
+
+/// A law: each call answers exactly once, on every board and under all wishes.
+#[tactic(auto, using(crate::proofs::CountingAnswers::answers_once))]
+pub fn answers_once()
+    ensures { AnswersOnce }
+{}
