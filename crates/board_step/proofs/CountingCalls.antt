@@ -57,7 +57,7 @@ use Rattle.board_step.specs.Accesses.{pair_written, pair_write, pair_gave, pair_
 use Rattle.board_step.specs.Calls.{number_of, io_row, plan_in_range, plan_of}
 
 -- every board
-abbrev Any : Board → Type 0
+abbrev pub Any : Board → Type 0
 Any b = Unit {0}
 
 any_kind : IsKind Any

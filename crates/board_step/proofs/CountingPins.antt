@@ -89,6 +89,11 @@ ioapic_apart table n place =
 
 -- ---- the pins of the pair
 
+-- a test counts one at most
+one_at_most : (t : Bool) → (if t then 1 else 0) ≤ 1
+one_at_most true = omega arith
+one_at_most false = omega arith
+
 -- pins of the pair, two at most, whose GSIs differ
 pub record FewOfPair (table : Table) (pins : List Pin) : Type 0 where
   pub apart : AreApart (λ pin. gsi_of table pin) pins
@@ -99,13 +104,8 @@ module _ (table : Table) where
   none_of_pair : FewOfPair table []
   none_of_pair = record { apart = λ place. omega arith; few = omega arith; never_again = refl }
 
-  -- one pin
-  at_most : (t : Bool) → (if t then 1 else 0) ≤ 1
-  at_most true = omega arith
-  at_most false = omega arith
-
   one_of_pair : (a : ℕ) → FewOfPair table (Pic a ∷ [])
-  one_of_pair a = record { apart = λ place. omega (arith, pins_count table place (Pic a ∷ []), at_most (has_pin (Pic a) (targets_of table place))); few = omega arith; never_again = refl }
+  one_of_pair a = record { apart = λ place. omega (arith, pins_count table place (Pic a ∷ []), one_at_most (has_pin (Pic a) (targets_of table place))); few = omega arith; never_again = refl }
 
   two_of_pair : (a b : ℕ) → nat_eq a b ≡ false → FewOfPair table (Pic a ∷ Pic b ∷ [])
   two_of_pair a b differ = record { apart = λ place. omega (arith, pins_count table place (Pic a ∷ Pic b ∷ []), one_of (targets_of table place).pic); few = omega arith; never_again = refl }
