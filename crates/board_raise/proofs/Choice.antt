@@ -49,7 +49,7 @@ module _ {X : Type 0} where
 -- ---- the lowest
 
 -- what is at most a is at most all that a is at most
-at_most_all : {X : Type 0} (f : X → ℕ) (a b : ℕ) → b ≤ a → (xs : List X) → list_all (λ o. nat_le a (f o)) xs ≡ true → list_all (λ o. nat_le b (f o)) xs ≡ true
+pub at_most_all : {X : Type 0} (f : X → ℕ) (a b : ℕ) → b ≤ a → (xs : List X) → list_all (λ o. nat_le a (f o)) xs ≡ true → list_all (λ o. nat_le b (f o)) xs ≡ true
 at_most_all f a b less [] h = refl
 at_most_all f a b less (x ∷ xs) h = elim (nat_le a (f x)) as (λ t. nat_le a (f x) ≡ t → (t && list_all (λ o. nat_le a (f o)) xs) ≡ true → (nat_le b (f x) && list_all (λ o. nat_le b (f o)) xs) ≡ true) [
   | true ↦ λ first rest. let first_too : nat_le b (f x) ≡ true = grind (less, first, arith) in ap (λ t. t && list_all (λ o. nat_le b (f o)) xs) first_too ∙ at_most_all f a b less xs rest

@@ -21,7 +21,7 @@ use Rattle.board_raise.specs.Named.{Processor, named_by, chosen_of, numbers_of}
 use Rattle.board_raise.specs.Send.{ignore, reached_by, see_each, parted, is_illegal, accept_each, deliver, refuse_vector, send_to, send}
 use Rattle.board_raise.specs.Laws.{processors_on}
 use Rattle.board_raise.specs.ReachLaws.{is_of_one, of_message, SendsReachTheSame}
-use Rattle.board_raise.proofs.Sending.{seen_each}
+use Rattle.board_raise.proofs.SendExactly.{seen_each}
 
 pub or_false : (a : Bool) → (a || false) ≡ a
 or_false true = refl

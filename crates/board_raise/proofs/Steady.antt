@@ -22,7 +22,7 @@ use Rattle.board_model.specs.Following.{reached, IsSteady}
 use Rattle.board_raise.specs.Named.{Processor, is_lowest, lowest_of, first_or, first_alone, preferred, is_named, named_by, chosen_of, numbers_of}
 use Rattle.board_raise.specs.Send.{ignore, reached_by, see_each, parted, is_illegal, accept_each, deliver, refuse_vector, send_to}
 use Rattle.board_raise.specs.Steady.{SendsSteadily}
-use Rattle.board_raise.proofs.Sending.{Apart, neither, all_reached, of_reached, below_apart, only_apart}
+use Rattle.board_raise.proofs.SendExactly.{Apart, neither, all_reached, of_reached, below_apart, only_apart}
 
 -- Q holds of each value with which a plan can end
 Ends : {A : Type 0} → (A → Type 0) → Plan A → Type 0

@@ -7,3 +7,8 @@ pub mod PinLaws
 pub mod ReachLaws
 pub mod Steady
 pub mod OnRow
+pub mod InHand
+pub mod Told
+pub mod Lending
+pub mod OneBoard
+pub mod RowSteps

@@ -1,14 +1,33 @@
 //! Signals of a board: a message is sent, a GSI is raised, lowered or injected.
 //!
 //! Reading order of the definitions: `Named` (for which processors a message is), `Send` (its five steps), `Signal` (a GSI is
-//! raised, lowered or injected), `Fit` (parts that can belong to one board), and then what holds of them: `Laws`, `Steady`,
-//! `PinLaws`, `ReachLaws`. The functions here have no body; the contract of each is a law.
+//! raised, lowered or injected), `Fit` (parts that can belong to one board), `InHand` (the parts that the code has, as those
+//! of the model), `Told` (what the status of a sending tells), and then what holds of them: `Laws`, `Steady`, `PinLaws`,
+//! `ReachLaws`. The functions without a body are laws: the contract of each is what holds.
 #![tactic(auto)]
+
+mod lacks;
+mod on_rig;
+mod one;
+mod parts;
+mod rig;
+mod row;
+mod sending;
+mod words;
 
 ghost use Rattle.board_raise.specs.Laws.{WishesChooseExactly, WishesReachExactly, IllegalVectorIsRecorded};
 ghost use Rattle.board_raise.specs.PinLaws.{PicPinsFollowHolds, IoapicPinsFollowHolds};
 ghost use Rattle.board_raise.specs.ReachLaws.{SendsReachTheSame, SignalsReachTheSame};
 ghost use Rattle.board_raise.specs.Steady.{SendsSteadily};
+
+pub use board_model::TriggerWord;
+pub use lacks::Lacks;
+pub use on_rig::send;
+pub use one::OneBoard;
+pub use parts::{IoPart, Parts, PicPart, RegistryPart};
+pub use rig::Rig;
+pub use row::LapicRow;
+pub use words::Words;
 
 /// A law: of some named processors the sets that are chosen under all wishes are those that may be reached.
 #[tactic(auto, using(crate::proofs::Choice::wishes_choose_exactly))]
@@ -18,7 +37,7 @@ pub fn wishes_choose_exactly()
 
 /// A law: a message that comes to be sent is sent once, and the sets of processors that it reaches under all wishes are
 /// those that it may reach: all the named ones of the board, or for lowest priority any one of least PPR.
-#[tactic(auto, using(crate::proofs::Sending::wishes_reach_exactly))]
+#[tactic(auto, using(crate::proofs::SendExactly::wishes_reach_exactly))]
 pub fn wishes_reach_exactly()
     ensures { WishesReachExactly }
 {}

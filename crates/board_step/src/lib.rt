@@ -1,17 +1,13 @@
 //! What each call of a board does, as the one-thread board does it in one step, and what a legal history of calls is.
+//!
+//! Reading order of the definitions: `Refusals` (why a call is refused), `Registrations`, `Ticks`, `Processors` and `Accesses`
+//! (what each call does), `Calls` (all of them), `Step` (one call is one step), `Reach`, `Sound`, `History`, and then what holds
+//! of every step: `Laws`.
 #![tactic(auto)]
 
-ghost use Rattle.board_step.specs.Laws.{AnswersOnce, AlwaysAnswers};
+mod laws;
 
-/// A law: each call answers exactly once, on every board and under all wishes.
-#[tactic(auto, using(crate::proofs::CountingAnswers::answers_once))]
-pub fn answers_once()
-    ensures { AnswersOnce }
-{}
-
-/// A law: on a sound board each call that is allowed to its caller, and that no limit bars, has a step: one reply, and at
-/// most 560 events.
-#[tactic(auto, using(crate::proofs::CountingAnswers::always_answers))]
-pub fn always_answers()
-    ensures { AlwaysAnswers }
-{}
+pub use laws::{
+    always_answers, answers_once, board_after_is_reached, calls_steadily, leads_to_one,
+    refused_rightly, refuses_first, words_stay,
+};

@@ -1,0 +1,88 @@
+//! Signals on the parts that a rig lends.
+ghost use Rattle.std.specs.Prelude.{◌≡◌, ◌≤◌, length, IfOk};
+ghost use Rattle.irq_base.specs.declared.shape.Shape.{Shape};
+ghost use Rattle.lapic.specs.Messages.{is_taken};
+ghost use Rattle.board_model.specs.Plan.{About};
+ghost use Rattle.board_model.specs.Run.{run_on};
+ghost use Rattle.board_raise.specs.Fit.{LapicsFit};
+ghost use Rattle.board_raise.specs.InHand.{parts_of, OnlyApicsChange};
+ghost use Rattle.board_raise.specs.Send.{is_illegal, send};
+ghost use Rattle.board_raise.specs.Told.{heading_of, status_told, Tells, IsOfMessage};
+
+use crate::lacks::Lacks;
+use crate::rig::Rig;
+use crate::sending::{Reached, deliver, name_processors, record_illegal};
+use irq_base::{Cause, Message, Mode, Status};
+use lapic::Shorthand;
+
+// Whether a local APIC takes messages of the mode.
+fn is_taken(mode: Mode) -> bool
+    ensures { result ≡ is_taken mode }
+{
+    matches!(mode, Mode::Fixed | Mode::Lowest | Mode::Nmi)
+}
+
+// Whether the vector of the message is illegal; an NMI has none.
+fn is_illegal(message: &Message) -> bool
+    ensures { result ≡ is_illegal message.now }
+{
+    !matches!(message.mode, Mode::Nmi) && message.vector < 16
+}
+
+// The status of a message that reached these processors.
+#[tactic(auto, using(crate::proofs::Telling::status_rules))]
+fn status_of(reached: Reached) -> Status
+    ensures { result ≡ status_told (record { new = reached.new; stood = reached.stood }) }
+{
+    if reached.new.is_empty() {
+        Status::Coalesced {
+            stood: reached.stood,
+        }
+    } else {
+        Status::Delivered {
+            new: reached.new,
+            stood: reached.stood,
+            pic: false,
+        }
+    }
+}
+
+/// Sends a message to the processors of a board (SDM volume 3, message signalled interrupts, interrupt command register).
+/// `from` is the sender and the shorthand of an interprocessor interrupt, and none for any other message. A local APIC that
+/// is to be looked at and is not in hand is lacking. A message of a mode that no local APIC takes, one that names no
+/// processor and one with an illegal vector are ignored. The rig is asked for a wish once for each message that is sent.
+pub fn send<R: Rig>(
+    rig: &mut R,
+    cpus: u16,
+    message: &Message,
+    from: Option<(u16, Shorthand)>,
+) -> Result<Status, Lacks>
+    requires few_cpus { cpus ≤ 64 }
+    requires places { length (R.held rig.old).lapics ≡ cpus }
+    ensures does { (about : About) → Tells (heading_of message.now from) about result (parts_of (R.held rig.new)) (R.wishes rig.new) (run_on (send cpus message.now from about) (parts_of (R.held rig.old)) (R.wishes rig.old)) }
+    ensures status { IfOk result IsOfMessage }
+    ensures kept { OnlyApicsChange (R.held rig.old) (R.held rig.new) }
+    ensures fits { (shape : Shape) → LapicsFit shape (parts_of (R.held rig.old)) → LapicsFit shape (parts_of (R.held rig.new)) }
+    ensures published { R.published rig.new ≡ R.published rig.old }
+    ensures strays { R.astray rig.new ≡ R.astray rig.old }
+{
+    if !is_taken(message.mode) {
+        return Ok(Status::Ignored(Cause::Mode));
+    }
+    let parts = rig.parts();
+    let named = match name_processors(&parts.lapics, cpus, message, from) {
+        Ok(named) => named,
+        Err(lacks) => return Err(lacks),
+    };
+    if named.all.is_empty() {
+        return Ok(Status::Ignored(Cause::NoProcessor));
+    }
+    if is_illegal(message) {
+        record_illegal(&mut parts.lapics, cpus, message, from, &named);
+        return Ok(Status::Ignored(Cause::BadVector));
+    }
+    let wish = rig.wish();
+    let parts = rig.parts();
+    let reached = deliver(&mut parts.lapics, cpus, message, from, &named, &wish);
+    Ok(status_of(reached))
+}

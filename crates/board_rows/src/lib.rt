@@ -1,0 +1,5 @@
+//! Tests of the board: worked rows and scenarios of the public standards, whose expected values come from these.
+#![tactic(auto)]
+
+#[cfg(test)]
+mod sendings;
