@@ -18,3 +18,4 @@ pub mod OnHand
 pub mod Telling
 pub mod Manner
 pub mod SignalSteady
+pub mod Counting

@@ -39,6 +39,10 @@ CallsSteadily = (b : Board) (caller : Caller) (call : Call) → IsSteady (plan_o
 
 -- ---- a call always answers
 
+-- each call answers exactly once, on every board and under all wishes
+abbrev pub AnswersOnce : Type 0
+AnswersOnce = (b : Board) (caller : Caller) (call : Call) (ws : Wishes) → length (run (plan_on b caller call) b ws).log.answers ≡ 1
+
 -- some reply, and at most 560 events, are those of a step
 pub record HasStep (b : Board) (caller : Caller) (call : Call) : Type 0 where
   pub reply : Reply

@@ -1,6 +1,6 @@
 //! The laws of steps: functions with no body, the contract of each being a law.
 
-ghost use Rattle.board_step.specs.Laws.{LeadsToOne, CallsSteadily, BoardAfterIsReached, RefusesFirst, RefusedRightly, WordsStay};
+ghost use Rattle.board_step.specs.Laws.{LeadsToOne, CallsSteadily, BoardAfterIsReached, AnswersOnce, AlwaysAnswers, RefusesFirst, RefusedRightly, WordsStay};
 
 /// A law: an entry leads from a board to one board at most.
 pub fn leads_to_one()
@@ -15,6 +15,19 @@ pub fn calls_steadily()
 /// A law: a history leads from a board to one board at most, and that is the one which its entries tell.
 pub fn board_after_is_reached()
     ensures { BoardAfterIsReached }
+{}
+
+/// A law: each call answers exactly once, on every board and under all wishes.
+#[tactic(auto, using(crate::proofs::CountingAnswers::answers_once))]
+pub fn answers_once()
+    ensures { AnswersOnce }
+{}
+
+/// A law: on a sound board each call that is allowed to its caller, and that no limit bars, has a step: one reply, and at
+/// most 560 events.
+#[tactic(auto, using(crate::proofs::CountingAnswers::always_answers))]
+pub fn always_answers()
+    ensures { AlwaysAnswers }
 {}
 
 /// A law: a call that the board refuses answers that refusal alone, tells nothing and changes nothing, whatever is wished.

@@ -11,8 +11,8 @@ mod sound;
 mod typed;
 
 pub use laws::{
-    board_after_is_reached, calls_steadily, leads_to_one, refused_rightly, refuses_first,
-    words_stay,
+    always_answers, answers_once, board_after_is_reached, calls_steadily, leads_to_one,
+    refused_rightly, refuses_first, words_stay,
 };
 pub use reach::{depends_on_reach, reach_is_table, stays_outside_reach};
 pub use sound::{histories_keep_sound, opening_is_sound, steps_keep_sound};
