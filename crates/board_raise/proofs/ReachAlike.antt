@@ -31,7 +31,7 @@ use Rattle.board_raise.specs.Named.{Processor, is_named, named_by, chosen_of, nu
 use Rattle.board_raise.specs.Send.{ignore, reached_by, see_each, parted, is_illegal, accept_each, deliver, refuse_vector, send_to, send}
 use Rattle.board_raise.specs.Signal.{is_accepted, accept_pin, answer_shown, ioapic_answered, ioapic_raised, raise_pic, raise_other, raise, ioapic_let_go, let_go_pic, let_go_ioapic, let_go, let_go_after, inject}
 use Rattle.board_raise.specs.Laws.{processors_on}
-use Rattle.board_raise.proofs.Sending.{after_seen}
+use Rattle.board_raise.proofs.SendExactly.{after_seen}
 
 -- ---- local APICs that the same messages name
 
