@@ -2,14 +2,16 @@
 //!
 //! Reading order of the definitions: `Refusals` (why a call is refused), `Registrations`, `Ticks`, `Processors` and `Accesses`
 //! (what each call does), `Calls` (all of them), `Step` (one call is one step), `Reach`, `Sound`, `History`, and then what holds
-//! of every step: `Laws`.
+//! of every step: `Laws`, and along every history: `HistoryLaws`.
 #![tactic(auto)]
 
+mod histories;
 mod laws;
 mod reach;
 mod sound;
 mod typed;
 
+pub use histories::{other_injections_follow_acknowledges, ticks_are_conserved, ticks_inject_free};
 pub use laws::{
     always_answers, answers_once, board_after_is_reached, calls_steadily, leads_to_one,
     refused_rightly, refuses_first, words_stay,
