@@ -1,6 +1,6 @@
 //! The laws of histories: functions with no body, the contract of each being a law.
 
-ghost use Rattle.board_step.specs.HistoryLaws.{TicksAreConserved, TicksInjectFree, OtherInjectionsFollowAcknowledges};
+ghost use Rattle.board_step.specs.HistoryLaws.{TicksAreConserved, TicksInjectFree, OtherInjectionsFollowAcknowledges, NoSignalOfDeassignedTrigger};
 
 /// A law: from the start of reinjection on, and until the mode is set again, the ticks that fell are those that are pending
 /// and those that acknowledges took.
@@ -17,4 +17,10 @@ pub fn ticks_inject_free()
 /// acknowledge of the tick's GSI.
 pub fn other_injections_follow_acknowledges()
     ensures { OtherInjectionsFollowAcknowledges }
+{}
+
+/// A law: from the end of an irqfd to the next of its trigger, a write of its counter, or a guest write that rings it, signals
+/// nothing: it tells no more than that it rang, and changes no more than the count.
+pub fn no_signal_of_deassigned_trigger()
+    ensures { NoSignalOfDeassignedTrigger }
 {}
