@@ -1,0 +1,5 @@
+//! Tests of the board: worked sendings.
+#![tactic(auto)]
+
+#[cfg(test)]
+mod sendings;
