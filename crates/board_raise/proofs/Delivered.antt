@@ -22,7 +22,7 @@ use Rattle.board_raise.specs.OnRow.{Row, apic_in, with_processor, processors_in,
 use Rattle.board_raise.specs.RowSteps.{numbers_from, numbers_between, answer_at, with_answer, reached_after, sent_of}
 use Rattle.board_raise.proofs.SendExactly.{Apart, all_reached}
 use Rattle.board_raise.proofs.Rows.{Same, same_itself, same_accepted}
-use Rattle.board_raise.proofs.Told.{Each, each_passing, each_filtered, each_chosen, each_weaker, told, told_of}
+use Rattle.board_raise.proofs.Each.{Each, each_passing, each_filtered, each_chosen, each_weaker, told, told_of}
 
 -- ---- what an answer tells
 
@@ -241,6 +241,6 @@ below_between row first end limit up h = below_from row first (end - first) limi
 -- a number of the lowest is below what the numbers are below
 pub lowest_below : (row : Row) (first end limit : ℕ) (message : Message) (from : Option (ℕ × Shorthand)) → first ≤ end → end ≤ limit → (k : ℕ) → set.contains (numbers_of (lowest_of (named_in row (numbers_between first end) message from))) k ≡ true → k < limit
 lowest_below row first end limit message from up h k c =
-    let below : nat_lt k limit ≡ true = told_of (λ _. true) (λ k. nat_lt k limit) (lowest_of (named_in row (numbers_between first end) message from))
+    let below : nat_lt k limit ≡ true = told_of (λ k. nat_lt k limit) (lowest_of (named_in row (numbers_between first end) message from))
     (each_filtered (λ p. nat_lt p.number limit ≡ true) _ _ (each_filtered (λ p. nat_lt p.number limit ≡ true) _ _ (below_between row first end limit up h))) k c in
     grind (below, arith)

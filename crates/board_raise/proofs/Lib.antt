@@ -9,7 +9,8 @@ pub mod Publishing
 pub mod InHand
 pub mod Between
 pub mod Naming
-pub mod Told
+pub mod Each
+pub mod Preferred
 pub mod Delivered
 pub mod Rows
 pub mod OnHand

@@ -13,6 +13,7 @@ use Rattle.board_raise.specs.Named.{Processor, is_named, is_lowest, lowest_of, n
 use Rattle.board_raise.specs.OnRow.{Row, apic_in, with_processor, processors_in, named_in}
 use Rattle.board_raise.specs.RowSteps.{numbers_between, priority_named, with_named, naming_of}
 use Rattle.board_raise.proofs.Between.{between_next}
+use Rattle.board_raise.proofs.Each.{both_hold}
 use Rattle.board_raise.proofs.Choice.{at_most_all}
 
 -- the priority is a byte
@@ -75,10 +76,6 @@ module _ (row : Row) (n k end : ℕ) (message : Message) (from : Option (ℕ × 
       ap (list_all is_small) more ∙ ap (λ t. t && list_all is_small (named_in row (numbers_between k end) message from)) small ∙ rest
 
 -- ---- what is told of them all
-
-both_hold : (a b : Bool) → (a && b) ≡ true → (a ≡ true) × (b ≡ true)
-both_hold true b h = (refl, h)
-both_hold false b h = absurd (true≢false (sym h))
 
 -- one of three
 abbrev pick : Bool → Bool → Naming → Naming → Naming → Naming

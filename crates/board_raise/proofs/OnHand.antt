@@ -20,7 +20,7 @@ use Rattle.board_raise.specs.Named.{Processor, named_by, numbers_of}
 use Rattle.board_raise.specs.Send.{ignore, reached_by, see_each, is_illegal, accept_each, refuse_vector, deliver, send_to, send}
 use Rattle.board_raise.specs.OnRow.{Row, apic_in, missing_or, first_missing, with_processor, processors_in, accepted_at, accepted_by, named_in, sent_in}
 use Rattle.board_raise.proofs.SendExactly.{Apart, of_reached, below_apart, only_apart}
-use Rattle.board_raise.proofs.Told.{nobody_told}
+use Rattle.board_raise.proofs.Each.{nobody_told}
 use Rattle.board_raise.proofs.Rows.{Same, same_itself, same_after}
 
 -- ---- the processors that are looked at

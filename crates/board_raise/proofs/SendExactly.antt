@@ -9,8 +9,6 @@ use Rattle.std.specs.Cmp.{nat_cmp_total}
 use Rattle.irq_bits.specs.Members.{Numbers}
 use Rattle.irq_bits.specs.SetLemmas.{contains-insert_number}
 use Rattle.irq_base.specs.declared.message.Message.{Message}
-use Rattle.irq_base.specs.declared.message.Mode.{Mode}
-use Rattle.irq_base.specs.declared.message.Mode.TheVariants.{Fixed, Lowest, Smi, Nmi, Init, Startup, ExtInt, Reserved}
 use Rattle.irq_base.specs.declared.shape.Part.TheVariants.{Lapic}
 use Rattle.irq_base.specs.declared.status.Cause.TheVariants.{Mode as BadMode}
 use Rattle.lapic.specs.declared.outcome.Shorthand.{Shorthand}
@@ -25,10 +23,11 @@ use Rattle.board_model.specs.Following.{reached}
 use Rattle.board_model.proofs.Lens.{part_of-with_other, lapics-with}
 use Rattle.board_model.proofs.Sequence.{run-bind}
 use Rattle.lapic.specs.Registers.{power_on}
-use Rattle.board_raise.specs.Named.{Processor, first_or, does_hear, is_named, named_by, chosen_of, numbers_of}
+use Rattle.board_raise.specs.Named.{Processor, does_hear, is_named, named_by, chosen_of, numbers_of}
 use Rattle.board_raise.specs.Send.{ignore, numbers_below, only, reached_by, see_each, has_request, parted, accept_each, deliver, refuse_vector, send_to, send}
 use Rattle.board_raise.specs.Laws.{processors_on, named_on, HasProcessors, IsSent, IsSending, ChoosesExactly, WishesReachExactly}
 use Rattle.board_raise.proofs.Choice.{wishes_choose_exactly}
+use Rattle.board_raise.proofs.Each.{Each, each_filtered, each_chosen, each_weaker, told, told_of}
 
 -- ---- the processors that are looked at
 
@@ -182,33 +181,6 @@ module _ (message : Message) where
 
   -- ---- where the request was there before
 
-  -- P holds of each of these
-  Each : (Processor → Type 0) → List Processor → Type 0
-  Each P [] = Unit {0}
-  Each P (p ∷ ps) = P p × Each P ps
-
-  module _ (P : Processor → Type 0) where
-    each_of_some : (t : Processor → Bool) (ps : List Processor) → Each P ps → Each P (filter t ps)
-    unfolding Each
-    each_of_some t [] h = tt
-    each_of_some t (p ∷ ps) h = elim (t p) as (λ k. Each P (cond k (p ∷ filter t ps) (filter t ps))) [ true ↦ (h.0, each_of_some t ps h.1) | false ↦ each_of_some t ps h.1 ]
-
-    each_of_first : (ps qs : List Processor) → Each P ps → Each P qs → Each P (first_or ps qs)
-    unfolding Each
-    each_of_first [] [] g h = tt
-    each_of_first [] (q ∷ qs) g h = (h.0, tt)
-    each_of_first (p ∷ ps) qs g h = (g.0, tt)
-
-    each_chosen : (mode : Mode) (wish : Numbers) (named : List Processor) → Each P named → Each P (chosen_of mode wish named)
-    each_chosen Lowest wish named h = each_of_first _ _ (each_of_some _ _ (each_of_some _ named h)) (each_of_some _ named h)
-    each_chosen Fixed wish named h = h
-    each_chosen Smi wish named h = h
-    each_chosen Nmi wish named h = h
-    each_chosen Init wish named h = h
-    each_chosen Startup wish named h = h
-    each_chosen ExtInt wish named h = h
-    each_chosen Reserved wish named h = h
-
   -- the processor is as the board has it
   abbrev IsOn : Board → Processor → Type 0
   IsOn b p = p.apic ≡ part_of b (Lapic p.number)
@@ -224,20 +196,6 @@ module _ (message : Message) where
   or_later true b h = refl
   or_later false b h = h
 
-  each_within_more : (n : ℕ) (ns : List ℕ) (ps : List Processor) → Each (IsIn ns) ps → Each (IsIn (n ∷ ns)) ps
-  unfolding Each
-  each_within_more n ns [] h = tt
-  each_within_more n ns (p ∷ ps) h = (or_later _ _ h.0, each_within_more n ns ps h.1)
-
-  member_in : (ns : List ℕ) (ps : List Processor) → Each (IsIn ns) ps → (k : ℕ) → set.contains (numbers_of ps) k ≡ true → is_in k ns ≡ true
-  unfolding Each
-  member_in ns [] h k c = absurd (true≢false (sym c ∙ contains-empty nat_cmp k))
-  member_in ns (p ∷ ps) h k c = from (nat_eq k p.number) refl (sym (contains-insert_number (numbers_of ps) p.number k) ∙ c) (member_in ns ps h.1 k)
-    where
-      from : (t : Bool) → nat_eq k p.number ≡ t → (t || set.contains (numbers_of ps) k) ≡ true → (set.contains (numbers_of ps) k ≡ true → is_in k ns ≡ true) → is_in k ns ≡ true
-      from true same _ _ = let e : k ≡ p.number = grind (same, arith) in ap (λ m. is_in m ns) e ∙ h.0
-      from false _ later f = f later
-
   module _ (b : Board) where
     seen_are_on : (ns : List ℕ) → Each (IsOn b) (processors_on b ns)
     unfolding Each
@@ -247,43 +205,14 @@ module _ (message : Message) where
     seen_are_in : (ns : List ℕ) → Each (IsIn ns) (processors_on b ns)
     unfolding Each
     seen_are_in [] = tt
-    seen_are_in (n ∷ ns) = (itself n ns, each_within_more n ns (processors_on b ns) (seen_are_in ns))
+    seen_are_in (n ∷ ns) = (itself n ns, each_weaker (IsIn ns) (IsIn (n ∷ ns)) (λ p h. or_later (nat_eq n p.number) (is_in p.number ns) h) (processors_on b ns) (seen_are_in ns))
       where
         itself : (n : ℕ) (ns : List ℕ) → (nat_eq n n || is_in n ns) ≡ true
         itself n ns = let same : nat_eq n n ≡ true = grind arith in ap (λ t. t || is_in n ns) same
 
     -- a test of processors that the board decides by the number
-    module _ (t : Processor → Bool) where
-      those_passing : (ps : List Processor) → Each (IsOn b) ps → (n : ℕ) → set.contains (numbers_of (filter t ps)) n ≡ (set.contains (numbers_of ps) n && t (record { number = n; apic = part_of b (Lapic n) }))
-      unfolding Each
-      those_passing [] h n = contains-empty nat_cmp n ∙ ap (λ k. k && t (record { number = n; apic = part_of b (Lapic n) })) (sym (contains-empty nat_cmp n))
-      those_passing (p ∷ ps) h n =
-          elim (t p) as (λ k. t p ≡ k → set.contains (numbers_of (cond k (p ∷ filter t ps) (filter t ps))) n ≡ (set.contains (set.insert (numbers_of ps) p.number) n && t (record { number = n; apic = part_of b (Lapic n) }))) [
-            | true ↦ λ passes.
-                contains-insert_number (numbers_of (filter t ps)) p.number n
-                ∙ ap (λ k. nat_eq n p.number || k) (those_passing ps h.1 n)
-                ∙ one_passes (nat_eq n p.number) _ _ (λ same. at same passes)
-                ∙ ap (λ k. k && t (record { number = n; apic = part_of b (Lapic n) })) (sym (contains-insert_number (numbers_of ps) p.number n))
-            | false ↦ λ fails.
-                those_passing ps h.1 n
-                ∙ one_fails (nat_eq n p.number) _ _ (λ same. at same fails)
-                ∙ ap (λ k. k && t (record { number = n; apic = part_of b (Lapic n) })) (sym (contains-insert_number (numbers_of ps) p.number n))
-          ] refl
-        where
-          at : {k : Bool} → nat_eq n p.number ≡ true → t p ≡ k → t (record { number = n; apic = part_of b (Lapic n) }) ≡ k
-          at same is = let e : n ≡ p.number = grind (same, arith) in ap (λ m. t (record { number = m; apic = part_of b (Lapic m) })) e ∙ ap (λ a. t (record { number = p.number; apic = a })) (sym h.0) ∙ is
-
-          one_passes : (e c k : Bool) → (e ≡ true → k ≡ true) → (e || (c && k)) ≡ ((e || c) && k)
-          one_passes true c k f = sym (f refl)
-          one_passes false c k f = refl
-
-          one_fails : (e c k : Bool) → (e ≡ true → k ≡ false) → (c && k) ≡ ((e || c) && k)
-          one_fails true c k f = ap (λ r. c && r) (f refl) ∙ never c ∙ sym (f refl)
-            where
-              never : (c : Bool) → (c && false) ≡ false
-              never true = refl
-              never false = refl
-          one_fails false c k f = refl
+    those_passing : (t : Processor → Bool) (ps : List Processor) → Each (IsOn b) ps → (n : ℕ) → set.contains (numbers_of (filter t ps)) n ≡ (set.contains (numbers_of ps) n && t (record { number = n; apic = part_of b (Lapic n) }))
+    those_passing t ps on = told t (λ n. t (record { number = n; apic = part_of b (Lapic n) })) ps (each_weaker (IsOn b) (λ p. t (record { number = p.number; apic = part_of b (Lapic p.number) }) ≡ t p) (λ p h. ap (λ a. t (record { number = p.number; apic = a })) (sym h)) ps on)
 
 -- ---- the local APICs after it
 
@@ -441,14 +370,14 @@ module _ (cpus : ℕ) (message : Message) (from : Option (ℕ × Shorthand)) (ab
       delivered : run (send cpus message from about) b ws ≡ run (deliver message from about (processors_on b (reached_by message from cpus)) named) b ws
       delivered = is_delivered named is_sent is ws
 
-      on : Each message (IsOn message b) (chosen_of message.mode (next_wish ws) named)
-      on = each_chosen message (IsOn message b) message.mode (next_wish ws) named
-          (subst (Each message (IsOn message b)) is (each_of_some message (IsOn message b) (is_named message from) (processors_on b (reached_by message from cpus)) (seen_are_on message b (reached_by message from cpus))))
+      on : Each (IsOn message b) (chosen_of message.mode (next_wish ws) named)
+      on = each_chosen (IsOn message b) message.mode (next_wish ws) named
+          (subst (Each (IsOn message b)) is (each_filtered (IsOn message b) (is_named message from) (processors_on b (reached_by message from cpus)) (seen_are_on message b (reached_by message from cpus))))
 
       within : (k : ℕ) → set.contains (reached (parted message (chosen_of message.mode (next_wish ws) named))) k ≡ true → list_any (λ n. nat_eq n k) (reached_by message from cpus) ≡ true
-      within k h = member_in message (reached_by message from cpus) (chosen_of message.mode (next_wish ws) named)
-          (each_chosen message (IsIn message (reached_by message from cpus)) message.mode (next_wish ws) named
-          (subst (Each message (IsIn message (reached_by message from cpus))) is (each_of_some message (IsIn message (reached_by message from cpus)) (is_named message from) (processors_on b (reached_by message from cpus)) (seen_are_in message b (reached_by message from cpus)))))
+      within k h = told_of (λ n. list_any (λ m. nat_eq m n) (reached_by message from cpus)) (chosen_of message.mode (next_wish ws) named)
+          (each_chosen (IsIn message (reached_by message from cpus)) message.mode (next_wish ws) named
+          (subst (Each (IsIn message (reached_by message from cpus))) is (each_filtered (IsIn message (reached_by message from cpus)) (is_named message from) (processors_on b (reached_by message from cpus)) (seen_are_in message b (reached_by message from cpus)))))
           k (ap (λ s. set.contains s k) (sym (all_reached message (chosen_of message.mode (next_wish ws) named))) ∙ h)
 
       by_place : (k : ℕ)

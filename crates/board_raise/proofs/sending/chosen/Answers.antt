@@ -1,6 +1,6 @@
 use Rattle.std.proofs.Common.{sym, ap, ◌∙◌}
 use Rattle.board_raise.specs.Named.{is_lowest, lowest_of, chosen_of, numbers_of}
-use Rattle.board_raise.proofs.Told.{ascends_filtered}
+use Rattle.board_raise.proofs.Preferred.{ascends_filtered}
 use Rattle.board_raise.proofs.sending.chosen.Goals as goal
 
 pub returns-in-Lowest : goal.returns-in-Lowest

@@ -5,7 +5,7 @@ use Rattle.board_raise.specs.Send.{reached_by}
 use Rattle.board_raise.specs.OnRow.{processors_in, accepted_by, named_in}
 use Rattle.board_raise.specs.RowSteps.{numbers_between, sent_of, reached_after}
 use Rattle.board_raise.proofs.OnHand.{reached_apart}
-use Rattle.board_raise.proofs.Told.{ascends_filtered, ascends_between}
+use Rattle.board_raise.proofs.Preferred.{ascends_filtered, ascends_between}
 use Rattle.board_raise.proofs.Delivered.{delivered, row_delivered, lowest_below}
 use Rattle.board_raise.proofs.sending.deliver.Goals as goal
 

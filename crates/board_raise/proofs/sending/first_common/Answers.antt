@@ -1,5 +1,5 @@
 use Rattle.std.proofs.Common.{sym, ◌∙◌, arith}
-use Rattle.board_raise.proofs.Told.{common_least, common_none}
+use Rattle.board_raise.proofs.Preferred.{common_least, common_none}
 use Rattle.board_raise.proofs.sending.first_common.Goals as goal
 
 pub returns-then-has-2-clause-least : goal.returns-then-has-2-clause-least

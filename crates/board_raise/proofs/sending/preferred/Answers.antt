@@ -1,5 +1,5 @@
 use Rattle.std.proofs.Common.{◌∙◌}
-use Rattle.board_raise.proofs.Told.{preferred_wished, preferred_first, preferred_nobody}
+use Rattle.board_raise.proofs.Preferred.{preferred_wished, preferred_first, preferred_nobody}
 use Rattle.board_raise.proofs.sending.preferred.Goals as goal
 
 pub returns-in-Some : goal.returns-in-Some
