@@ -1,2 +1,3 @@
 pub mod Acknowledge
 pub mod Ticks
+pub mod ReachLaws

@@ -3,6 +3,7 @@ pub mod SendExactly
 pub mod Pins
 pub mod Reaching
 pub mod SignalReach
+pub mod ReachAlike
 pub mod Illegal
 pub mod Steady
 pub mod Publishing
@@ -15,3 +16,6 @@ pub mod Delivered
 pub mod Rows
 pub mod OnHand
 pub mod Telling
+pub mod Manner
+pub mod SignalSteady
+pub mod Counting

@@ -8,10 +8,12 @@ use Rattle.std.specs.Cmp.{nat_cmp_total}
 use Rattle.std.specs.declared.option.Option.{Option}
 use Rattle.irq_bits.specs.Members.{Numbers, IsLeast}
 use Rattle.irq_bits.specs.SetLemmas.{contains-insert_number}
+use Rattle.irq_base.specs.declared.message.Mode.{Mode}
+use Rattle.irq_base.specs.declared.message.Mode.TheVariants.{Fixed, Lowest, Smi, Nmi, Init, Startup, ExtInt, Reserved}
 use Rattle.lapic.specs.Registers.{LocalApic}
-use Rattle.board_raise.specs.Named.{Processor, first_alone, first_or, preferred, numbers_of}
+use Rattle.board_raise.specs.Named.{Processor, lowest_of, first_alone, first_or, preferred, chosen_of, numbers_of}
 use Rattle.board_raise.specs.OnRow.{Row, apic_in, with_processor, processors_in}
-use Rattle.board_raise.specs.RowSteps.{numbers_from, numbers_between, Ascends}
+use Rattle.board_raise.specs.RowSteps.{numbers_from, numbers_between, Ascends, goes_to_lowest}
 use Rattle.board_raise.proofs.Each.{both_hold, Each, told, nobody_told}
 
 -- ---- numbers that go up
@@ -140,3 +142,35 @@ common_none a b none few = same_set nat_cmp_total nat_cmp-IsAntisymmetric _ _ (�
     at : (k : ℕ) (t : Bool) → set.contains a k ≡ t → (set.contains a k && set.contains b k) ≡ false
     at k true h = none k (few k h)
     at k false h = ap (λ t. t && set.contains b k) h
+
+-- ---- the mode
+
+-- of a message to the lowest the preferred one is chosen
+pub chosen_lowest : (mode : Mode) (wish : Numbers) (ps : List Processor) → goes_to_lowest mode ≡ true → chosen_of mode wish ps ≡ preferred wish (lowest_of ps)
+chosen_lowest Lowest wish ps h = refl
+chosen_lowest Fixed wish ps h = absurd (true≢false (sym h))
+chosen_lowest Smi wish ps h = absurd (true≢false (sym h))
+chosen_lowest Nmi wish ps h = absurd (true≢false (sym h))
+chosen_lowest Init wish ps h = absurd (true≢false (sym h))
+chosen_lowest Startup wish ps h = absurd (true≢false (sym h))
+chosen_lowest ExtInt wish ps h = absurd (true≢false (sym h))
+chosen_lowest Reserved wish ps h = absurd (true≢false (sym h))
+
+-- of another all named ones are
+pub chosen_all : (mode : Mode) (wish : Numbers) (ps : List Processor) → goes_to_lowest mode ≡ false → chosen_of mode wish ps ≡ ps
+chosen_all Lowest wish ps h = absurd (true≢false h)
+chosen_all Fixed wish ps h = refl
+chosen_all Smi wish ps h = refl
+chosen_all Nmi wish ps h = refl
+chosen_all Init wish ps h = refl
+chosen_all Startup wish ps h = refl
+chosen_all ExtInt wish ps h = refl
+chosen_all Reserved wish ps h = refl
+
+-- nothing is in common with no numbers
+pub common_with_none : (one other : Numbers) → other ≡ set.empty → set.intersection one other ≡ set.empty
+common_with_none one other none = ap (set.intersection one) none ∙ same_set nat_cmp_total nat_cmp-IsAntisymmetric _ _ (λ k. contains-intersection nat_cmp_total one set.empty k ∙ ap (λ b. set.contains one k && b) (contains-empty nat_cmp k) ∙ and_false (set.contains one k) ∙ sym (contains-empty nat_cmp k))
+  where
+    and_false : (b : Bool) → (b && false) ≡ false
+    and_false true = refl
+    and_false false = refl

@@ -38,7 +38,7 @@ module _ (q : Part) where
   shown_reach about other b ws = ended_reach (show about other) other b ws ∙ show_reach about other b ws
 
   -- to set remote IRR reaches the I/O APIC at most
-  accept_reach : (pin : ℕ) (t : Bool) (b : Board) (ws : Wishes) → reaches (accept_pin pin t) b ws q ≡ true → is_same Ioapic q ≡ true
+  pub accept_reach : (pin : ℕ) (t : Bool) (b : Board) (ws : Wishes) → reaches (accept_pin pin t) b ws q ≡ true → is_same Ioapic q ≡ true
   accept_reach pin true b ws h = at_most _ h
     where
       at_most : (a : Bool) → (a || (a || false)) ≡ true → a ≡ true
@@ -47,7 +47,7 @@ module _ (q : Part) where
   accept_reach pin false b ws h = absurd (true≢false (sym h))
 
   -- more of what is reached already
-  more_of : (i m r : Bool) → (r ≡ true → i ≡ true) → (i || (m || r)) ≡ (i || m)
+  pub more_of : (i m r : Bool) → (r ≡ true → i ≡ true) → (i || (m || r)) ≡ (i || m)
   more_of true m r f = refl
   more_of false m true f = absurd (true≢false (sym (f refl)))
   more_of false m false f = or_false m

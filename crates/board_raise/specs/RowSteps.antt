@@ -1,10 +1,12 @@
 -- How a sending goes through a row of local APICs, processor by processor.
-use Rattle.std.specs.Prelude.{◌≡◌, ℕ, zero, suc, ◌+◌, ◌-◌, Bool, true, not, nat_eq, nat_lt, List, [], ◌∷◌, if◌then◌else◌, Some, None}
+use Rattle.std.specs.Prelude.{◌≡◌, ℕ, zero, suc, ◌+◌, ◌-◌, Bool, true, false, not, nat_eq, nat_lt, List, [], ◌∷◌, if◌then◌else◌, Some, None}
 use Rattle.std.specs.List.{list_all}
 use Rattle.std.specs.declared.option.Option.{Option}
 use Rattle.std.specs.FinSet as set
 use Rattle.irq_bits.specs.Members.{Numbers}
 use Rattle.irq_base.specs.declared.message.Message.{Message}
+use Rattle.irq_base.specs.declared.message.Mode.{Mode}
+use Rattle.irq_base.specs.declared.message.Mode.TheVariants.{Lowest}
 use Rattle.irq_base.specs.declared.message.DestView.{DestView}
 use Rattle.dest_match.specs.Match.{does_match}
 use Rattle.lapic.specs.declared.outcome.Accepted.{Accepted}
@@ -86,3 +88,8 @@ reached_after message takers [] row reached = reached
 reached_after message takers (n ∷ ns) row reached =
     if set.contains takers n then reached_after message takers ns (accepted_at n (apic_in row n) message row) (with_answer reached n (answer_at (apic_in row n) message))
     else reached_after message takers ns row reached
+
+-- whether a message goes to one processor of lowest priority (SDM volume 3, lowest priority delivery)
+abbrev pub goes_to_lowest : Mode → Bool
+goes_to_lowest Lowest = true
+goes_to_lowest _ = false

@@ -1,5 +1,5 @@
 //! A rig over all parts of a board on one thread.
-ghost use Rattle.std.specs.Prelude.{◌≡◌, is_some, Some, None};
+ghost use Rattle.std.specs.Prelude.{◌≡◌, is_some};
 ghost use Rattle.board_model.specs.Hand.{part_in};
 ghost use Rattle.board_raise.specs.InHand.{parts_of};
 ghost use Rattle.board_raise.specs.OnRow.{apic_in};
@@ -45,26 +45,13 @@ fn has_part(parts: &Parts, part: Part) -> bool
 }
 
 impl OneBoard {
-    /// A rig over these parts, whose board published these words. It wishes for nothing.
-    pub fn new(parts: Parts, words: Words) -> OneBoard
+    /// A rig over these parts, whose board published these words.
+    pub fn new(parts: Parts, words: Words, wish: Option<CpuSet>) -> OneBoard
         ensures parts { result.parts ≡ parts }
         ensures words { result.words ≡ words }
-        ensures wish { result.wish ≡ None }
+        ensures wish { result.wish ≡ wish }
     {
-        OneBoard {
-            parts,
-            words,
-            wish: None,
-        }
-    }
-
-    /// The next sending is to choose one of these processors, where it is free to choose.
-    pub fn wish_for(&mut self, wish: CpuSet)
-        ensures parts { self.new.parts ≡ self.old.parts }
-        ensures words { self.new.words ≡ self.old.words }
-        ensures wish { self.new.wish ≡ Some wish }
-    {
-        self.wish = Some(wish);
+        OneBoard { parts, words, wish }
     }
 
     /// The parts as they are now, and the words.

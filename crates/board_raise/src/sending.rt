@@ -10,7 +10,7 @@ ghost use Rattle.board_model.specs.Following.{reached};
 ghost use Rattle.board_raise.specs.Named.{Processor, numbers_of, lowest_of, chosen_of, preferred};
 ghost use Rattle.board_raise.specs.Send.{reached_by, only, is_illegal};
 ghost use Rattle.board_raise.specs.OnRow.{apic_in, first_missing, accepted_by, named_in, sent_in};
-ghost use Rattle.board_raise.specs.RowSteps.{numbers_between, Ascends, is_addressed_as, priority_named, with_named, naming_of, sent_of, with_answer, reached_after};
+ghost use Rattle.board_raise.specs.RowSteps.{numbers_between, Ascends, is_addressed_as, goes_to_lowest, priority_named, with_named, naming_of, sent_of, with_answer, reached_after};
 
 use crate::lacks::Lacks;
 use crate::row::LapicRow;
@@ -274,10 +274,18 @@ fn chosen(mode: Mode, named: &Named, wish: &CpuSet) -> CpuSet
     requires { (k : ℕ) → IsTrue (set.contains named.now.lowest k) → k < 64 }
     ensures { (ps : List Processor) → Ascends ps → named.now.all ≡ numbers_of ps → named.now.lowest ≡ numbers_of (lowest_of ps) → result ≡ numbers_of (chosen_of mode wish.now ps) }
 {
-    match mode {
-        Mode::Lowest => preferred(&named.lowest, wish),
-        _ => named.all,
+    if goes_to_lowest(mode) {
+        preferred(&named.lowest, wish)
+    } else {
+        named.all
     }
+}
+
+// Whether the message goes to one processor of lowest priority.
+fn goes_to_lowest(mode: Mode) -> bool
+    ensures { result ≡ goes_to_lowest mode }
+{
+    matches!(mode, Mode::Lowest)
 }
 
 // The first that is wished for, else the first, alone.
@@ -300,6 +308,9 @@ fn first_common(one: &CpuSet, other: &CpuSet) -> Option<u16>
     ensures least { MatchOption result (set.intersection one.now other.now ≡ set.empty) (IsLeast (set.intersection one.now other.now)) }
     ensures range { IfSome result (λ n. n < 64) }
 {
+    if other.is_empty() {
+        return None;
+    }
     for n in 0..64 {
         if one.has(n) && other.has(n) {
             return Some(n);

@@ -1,5 +1,7 @@
-//! Tests of the board: worked sendings.
+//! Tests of the board: worked rows and scenarios of the public standards, whose expected values come from these.
 #![tactic(auto)]
 
+#[cfg(test)]
+mod rigs;
 #[cfg(test)]
 mod sendings;

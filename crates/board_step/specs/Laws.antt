@@ -1,7 +1,10 @@
 -- What holds of every step.
-use Rattle.std.specs.Prelude.{◌≡◌, ◌≤◌, true, false, List, [], ◌∷◌, length, Some, None}
+use Rattle.std.specs.Prelude.{◌≡◌, ◌^◌, ◌<◌, ◌≤◌, All, true, false, List, [], ◌∷◌, length, Some, None}
 use Rattle.irq_base.specs.Callers.{is_allowed}
 use Rattle.irq_base.specs.declared.call.Call.{Call}
+use Rattle.irq_base.specs.declared.call.Call.TheVariants.{Reroute}
+use Rattle.irq_base.specs.declared.call.Row.{Row}
+use Rattle.irq_base.specs.declared.call.Row.TheVariants.{Msi}
 use Rattle.irq_base.specs.declared.call.Caller.{Caller}
 use Rattle.irq_base.specs.declared.event.Event.{Event}
 use Rattle.irq_base.specs.declared.lists.Entry.{Entry}
@@ -35,6 +38,10 @@ abbrev pub CallsSteadily : Type 0
 CallsSteadily = (b : Board) (caller : Caller) (call : Call) → IsSteady (plan_on b caller call)
 
 -- ---- a call always answers
+
+-- each call answers exactly once, on every board and under all wishes
+abbrev pub AnswersOnce : Type 0
+AnswersOnce = (b : Board) (caller : Caller) (call : Call) (ws : Wishes) → length (run (plan_on b caller call) b ws).log.answers ≡ 1
 
 -- some reply, and at most 560 events, are those of a step
 pub record HasStep (b : Board) (caller : Caller) (call : Call) : Type 0 where
@@ -101,6 +108,20 @@ RefusedRightly = (b : Board) (e : Entry) (c : Board) (refusal : Refusal) → Ste
 abbrev pub OpeningIsSound : Type 0
 OpeningIsSound = (shape : Shape) → InLimits shape → IsSound (opening shape)
 
--- a step from a sound board leads to one
+-- the payload of a row's message has 32 bits
+abbrev pub PayloadFits : Row → Type 0
+PayloadFits (Msi gsi address payload) = payload < 2 ^ 32
+PayloadFits _ = Unit {0}
+
+-- the payloads of a routing table's rows, which no refusal bounds, have the 32 bits of their type
+abbrev pub IsTyped : Call → Type 0
+IsTyped (Reroute rows) = All PayloadFits rows
+IsTyped _ = Unit {0}
+
+-- a step of a typed call from a sound board leads to one
 abbrev pub StepsKeepSound : Type 0
-StepsKeepSound = (b : Board) (e : Entry) (c : Board) → IsSound b → Step b e c → IsSound c
+StepsKeepSound = (b : Board) (e : Entry) (c : Board) → IsSound b → IsTyped e.call → Step b e c → IsSound c
+
+-- each board that typed calls lead to from one at power-on is sound, where its shape is in limits
+abbrev pub HistoriesKeepSound : Type 0
+HistoriesKeepSound = (shape : Shape) (es : List Entry) (last : Board) → InLimits shape → All (λ (e : Entry). IsTyped e.call) es → Leads (opening shape) es last → IsSound last

@@ -1,6 +1,6 @@
 -- Which parts of a board a call reaches, as a table (this board's own rule). The routing table, triggers and the GSIs of pins
 -- are published words: to read them reaches no part.
-use Rattle.std.specs.Prelude.{ℕ, ◌-◌, Bool, true, false, not, ◌&&◌, ◌||◌, nat_eq, nat_lt, if◌then◌else◌, List, [], ◌∷◌, slice_index, is_some, Some, None}
+use Rattle.std.specs.Prelude.{ℕ, ◌-◌, Bool, true, false, not, ◌&&◌, ◌||◌, nat_eq, nat_lt, if◌then◌else◌, List, slice_index, is_some, Some, None}
 use Rattle.std.specs.declared.option.Option.{Option}
 use Rattle.irq_bits.specs.Members.{greatest_vector}
 use Rattle.irq_base.specs.Refusals.{first_of}
@@ -9,20 +9,17 @@ use Rattle.irq_base.specs.declared.call.Call.TheVariants as calls
 use Rattle.irq_base.specs.declared.call.Caller.{Caller}
 use Rattle.irq_base.specs.declared.call.Space.{Space}
 use Rattle.irq_base.specs.declared.call.Space.TheVariants as spaces
-use Rattle.irq_base.specs.declared.event.Pin.{Pin}
-use Rattle.irq_base.specs.declared.event.Pin.TheVariants as pins
-use Rattle.irq_base.specs.declared.message.Message.{Message}
 use Rattle.irq_base.specs.declared.shape.Part.{Part}
 use Rattle.irq_base.specs.declared.shape.Part.TheVariants.{Registry, Counters, Tick, Pic, Ioapic, Lapic}
 use Rattle.irq_base.specs.declared.shape.Shape.{Shape}
 use Rattle.pic_8259a.specs.Pair.{is_port, has_output, cycle, write_to as pair_write_to, read_from as pair_read_from}
-use Rattle.ioapic_82093aa.specs.Pins.{entry_at, acknowledged, Written, write_to, resend_of}
+use Rattle.ioapic_82093aa.specs.Pins.{Written, write_to, resend_of}
 use Rattle.lapic.specs.declared.outcome.Effect.{Effect}
 use Rattle.lapic.specs.declared.outcome.Effect.TheVariants as effects
 use Rattle.lapic.specs.Registers.{LocalApic}
 use Rattle.lapic.specs.Offsets.{store_effect}
 use Rattle.msi_decode.specs.Messages.{message_in}
-use Rattle.tick_reinject.specs.Ticks.{tick_injects, ack_injects}
+use Rattle.tick_reinject.specs.Ticks.{tick_injects}
 use Rattle.irqfd_set.specs.declared.irqfds.Irqfd.{Irqfd}
 use Rattle.irqfd_set.specs.Rows.{named_row, without_row}
 use Rattle.ioevent_set.specs.Rows.{rung_by}
@@ -30,82 +27,32 @@ use Rattle.board_model.specs.declared.trigger.TriggerWord.{TriggerWord}
 use Rattle.board_model.specs.Board.{Board, part_of, is_same}
 use Rattle.board_model.specs.Chips.{pair_of, IoapicPart, ioapic_of, with_ioapic}
 use Rattle.board_model.specs.Routing.{Routing, routing_of_registry}
-use Rattle.board_model.specs.Plan.{Plan, ◌>>◌}
-use Rattle.board_model.specs.Run.{run}
-use Rattle.board_raise.specs.ReachLaws.{of_message, of_raise, of_fall}
-use Rattle.board_ack.specs.Acknowledge.{tell_concerned, end_level, acknowledge}
+use Rattle.board_raise.specs.ReachLaws.{of_message, of_fall}
+use Rattle.board_ack.specs.ReachLaws.{of_gsi, of_resend, of_acknowledge_each}
 use Rattle.board_step.specs.Refusals.{is_ioapic_address, is_lapic_address, range_reasons, assign_reasons}
 use Rattle.board_step.specs.Registrations.{was_last_resampler}
 use Rattle.board_step.specs.Processors.{pins_with, pic_pin, cycle_pins, hears_pair}
 use Rattle.board_step.specs.Calls.{number_of}
 
--- the board after a plan; which of its processors a message is given to makes no difference to what is reached later
-abbrev pub board_by : {A : Type 0} → Plan A → Board → Board
-board_by plan b = (run plan b []).board
-
 module _ (routing : Routing) (shape : Shape) where
-  -- ---- signals
-
-  -- what a raise of a GSI reaches
-  abbrev pub of_gsi : Board → ℕ → Part → Bool
-  of_gsi b gsi q = of_raise b (routing.targets gsi) shape.cpus q
-
-  -- ---- an acknowledge
-
-  -- the parts that a marked GSI concerns: all but the local APICs
-  abbrev pub is_concerned : Part → Bool
-  is_concerned (Lapic n) = false
-  is_concerned q = true
-
-  -- those whom the GSI of the pin concerns, where it is marked
-  abbrev pub of_marked : Option ℕ → Part → Bool
-  of_marked None q = false
-  of_marked (Some gsi) q = routing.marked gsi && is_concerned q
-
-  -- what a message reaches that is sent again, if there is one
-  abbrev pub of_resend : Option Message → Part → Bool
-  of_resend None q = false
-  of_resend (Some message) q = of_message message None shape.cpus q
-
-  -- the I/O APIC, where the pin is there, and what a level-triggered entry sends again once its remote IRR is clear
-  abbrev pub of_level : Board → Pin → Part → Bool
-  of_level b (pins.Pic pin) q = false
-  of_level b (pins.Ioapic pin) q =
-      is_same Ioapic q || ((entry_at (ioapic_of b.ioapic) pin).level && of_resend (resend_of (acknowledged (ioapic_of b.ioapic) pin) pin) q)
-
-  -- the tick, where the GSI is its own, and what the next tick reaches where it is injected
-  abbrev pub of_tick : Board → Option ℕ → Part → Bool
-  of_tick b None q = false
-  of_tick b (Some gsi) q = nat_eq gsi shape.tick && (is_same Tick q || (ack_injects b.tick && of_gsi b shape.tick q))
-
-  -- what the acknowledge of a pin reaches, its messages being those that are sent after the steps before them
-  abbrev pub of_acknowledge : Board → Pin → Part → Bool
-  of_acknowledge b pin q =
-      of_marked (routing.gsi_of pin) q
-      || (of_level (board_by (tell_concerned routing (routing.gsi_of pin)) b) pin q
-      || of_tick (board_by (tell_concerned routing (routing.gsi_of pin) >> end_level shape.cpus pin) b) (routing.gsi_of pin) q)
-
-  -- the same of pins that are acknowledged one after another
-  abbrev pub of_acknowledge_each : Board → List Pin → Part → Bool
-  of_acknowledge_each b [] q = false
-  of_acknowledge_each b (pin ∷ pins) q = of_acknowledge b pin q || of_acknowledge_each (board_by (acknowledge routing shape pin) b) pins q
+  -- ---- an end of interrupt
 
   -- where a vector ends the I/O APIC, and each of its pins that has the vector
   abbrev pub of_end : Board → Option ℕ → Part → Bool
   of_end b None q = false
-  of_end b (Some vector) q = is_same Ioapic q || of_acknowledge_each b (pins_with (ioapic_of b.ioapic) vector) q
+  of_end b (Some vector) q = is_same Ioapic q || of_acknowledge_each routing shape b (pins_with (ioapic_of b.ioapic) vector) q
 
   -- ---- counters and registrations
 
   -- a counter: its own count, or where it is a trigger what its GSI reaches
   abbrev pub of_counter : Board → Option TriggerWord → Part → Bool
   of_counter b None q = is_same Counters q
-  of_counter b (Some trigger) q = of_gsi b trigger.gsi q
+  of_counter b (Some trigger) q = of_gsi routing shape b trigger.gsi q
 
   -- a write of 0 to a trigger reaches nothing
   abbrev pub of_write : Board → Option TriggerWord → ℕ → Part → Bool
   of_write b None n q = is_same Counters q
-  of_write b (Some trigger) n q = not (nat_eq n 0) && of_gsi b trigger.gsi q
+  of_write b (Some trigger) n q = not (nat_eq n 0) && of_gsi routing shape b trigger.gsi q
 
   -- whether an irqfd that is made injects: it is not refused, and its trigger has a count
   abbrev pub does_inject : Board → ℕ → Option ℕ → Bool
@@ -120,7 +67,7 @@ module _ (routing : Routing) (shape : Shape) where
 
   -- an access to the pair, and the pin that it acknowledges, if any; one of another length than 1 acknowledges none
   abbrev pub of_pair : Board → ℕ → Option ℕ → Part → Bool
-  of_pair b len pin q = is_same Pic q || (nat_eq len 1 && of_acknowledge_each b (pic_pin pin) q)
+  of_pair b len pin q = is_same Pic q || (nat_eq len 1 && of_acknowledge_each routing shape b (pic_pin pin) q)
 
   -- a store to the I/O APIC, and what the entry that is written sends again, by the chip after it
   abbrev pub of_written : IoapicPart → Written → Part → Bool
@@ -128,7 +75,7 @@ module _ (routing : Routing) (shape : Shape) where
     where
       of_pin_written : Option ℕ → Bool
       of_pin_written None = false
-      of_pin_written (Some pin) = of_resend (resend_of (ioapic_of (with_ioapic part written.after)) pin) q
+      of_pin_written (Some pin) = of_resend routing shape (resend_of (ioapic_of (with_ioapic part written.after)) pin) q
 
   -- what a store to the local APIC of processor n brings about
   abbrev pub of_effect : Board → ℕ → Effect → Part → Bool
@@ -163,7 +110,7 @@ module _ (routing : Routing) (shape : Shape) where
 
   -- a cycle of the pair, and the pins that it acknowledges
   abbrev pub of_cycle : Board → Part → Bool
-  of_cycle b q = of_acknowledge_each b (cycle_pins (cycle (pair_of b.pic)).pins) q
+  of_cycle b q = of_acknowledge_each routing shape b (cycle_pins (cycle (pair_of b.pic)).pins) q
 
   -- the processor's local APIC; and the pair, where no NMI is pending and LINT0 of processor 0 lets it through
   abbrev pub of_ack : Board → ℕ → LocalApic → Part → Bool
@@ -173,12 +120,12 @@ module _ (routing : Routing) (shape : Shape) where
 
   -- what a call of the caller with that number reaches, its arguments being in range
   abbrev pub of_call : Board → ℕ → Call → Part → Bool
-  of_call b n (calls.Line gsi line true) q = of_gsi b gsi q
+  of_call b n (calls.Line gsi line true) q = of_gsi routing shape b gsi q
   of_call b n (calls.Line gsi line false) q = of_fall (routing.targets gsi) q
   of_call b n (calls.Msi address payload) q = of_message (message_in address payload) None shape.cpus q
   of_call b n (calls.Write counter count) q = of_write b (routing.trigger counter) count q
   of_call b n (calls.Take counter) q = is_same Counters q
-  of_call b n (calls.Assign trigger gsi resample) q = is_same Registry q || (is_same Counters q || (does_inject b trigger resample && of_gsi b gsi q))
+  of_call b n (calls.Assign trigger gsi resample) q = is_same Registry q || (is_same Counters q || (does_inject b trigger resample && of_gsi routing shape b gsi q))
   of_call b n (calls.Deassign trigger gsi) q =
       is_same Registry q || (does_release b.registry.irqfds trigger gsi (named_row b.registry.irqfds trigger gsi) && of_fall (routing.targets gsi) q)
   of_call b n (calls.Reroute rows) q = is_same Registry q || (is_same Pic q || is_same Ioapic q)
@@ -186,7 +133,7 @@ module _ (routing : Routing) (shape : Shape) where
   of_call b n (calls.Detach space address len counter want) q = is_same Registry q
   of_call b n (calls.Watch counter gsi) q = is_same Registry q
   of_call b n (calls.Unwatch counter gsi) q = is_same Registry q
-  of_call b n calls.Tick q = is_same Tick q || (tick_injects b.tick && of_gsi b shape.tick q)
+  of_call b n calls.Tick q = is_same Tick q || (tick_injects b.tick && of_gsi routing shape b shape.tick q)
   of_call b n (calls.TickMode reinject) q = is_same Tick q
   of_call b n (calls.PortOut port len value) q =
       if is_port port then of_pair b len (pair_write_to (pair_of b.pic) port value).pin q else of_ring b spaces.Port port len value q

@@ -1,2 +1,19 @@
 //! What each call of a board does, as the one-thread board does it in one step, and what a legal history of calls is.
+//!
+//! Reading order of the definitions: `Refusals` (why a call is refused), `Registrations`, `Ticks`, `Processors` and `Accesses`
+//! (what each call does), `Calls` (all of them), `Step` (one call is one step), `Reach`, `Sound`, `History`, and then what holds
+//! of every step: `Laws`.
 #![tactic(auto)]
+
+mod laws;
+mod reach;
+mod sound;
+mod typed;
+
+pub use laws::{
+    always_answers, answers_once, board_after_is_reached, calls_steadily, leads_to_one,
+    refused_rightly, refuses_first, words_stay,
+};
+pub use reach::{depends_on_reach, reach_is_table, stays_outside_reach};
+pub use sound::{histories_keep_sound, opening_is_sound, steps_keep_sound};
+pub use typed::calls_are_typed;

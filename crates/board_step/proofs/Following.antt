@@ -1,0 +1,42 @@
+-- The choices of calls can be followed by what an entry shows.
+use Rattle.std.proofs.Common.{◌≡◌, true, not, List, [], ◌∷◌, ◌++◌, refl, sym, ap, ◌∙◌, append-nil}
+use Rattle.irq_base.specs.declared.call.Call.{Call}
+use Rattle.irq_base.specs.declared.call.Caller.{Caller}
+use Rattle.irq_base.specs.declared.lists.Entry.{Entry}
+use Rattle.board_model.specs.Board.{Board}
+use Rattle.board_model.specs.Routing.{routing_of_registry}
+use Rattle.board_model.specs.Following.{shown_wishes, IsSteady}
+use Rattle.board_model.proofs.Followed.{shown_followed}
+use Rattle.board_raise.proofs.Manner.{Manner, Keeps, steady_of}
+use Rattle.board_step.specs.Step.{plan_on, outcome_of, counted, Step}
+use Rattle.board_step.specs.History.{wish_replied, wishes_told, wishes_shown, next_board, Leads, board_after}
+use Rattle.board_step.proofs.CallManner.{replies_in, writes_in, refuses_in, call_keeps, or_true}
+use Rattle.board_step.proofs.Shown.{wishes_replied, all_shown}
+
+-- the manner of a call that may do all it can
+abbrev free : Call → Manner
+free call = record { replies = replies_in call; writes = true; refuses = true }
+
+keeps_free : (b : Board) (caller : Caller) (call : Call) → Keeps (free call) (plan_on b caller call)
+keeps_free b caller call = call_keeps (free call) (routing_of_registry b.registry b.shape.tick) b.shape caller call refl (record { replies = refl; writes = or_true (not (writes_in call)); refuses = or_true (not (refuses_in call)) })
+
+pub calls_steadily : (b : Board) (caller : Caller) (call : Call) → IsSteady (plan_on b caller call)
+calls_steadily b caller call = steady_of (free call) (plan_on b caller call) (keeps_free b caller call)
+
+-- the wishes that an entry of a step shows are those of its sendings
+wishes_are : (b : Board) (e : Entry) (c : Board) (s : Step b e c) → wishes_shown e ≡ shown_wishes (outcome_of b e s.wishes).log.sendings
+wishes_are b e c s =
+    ap (λ l. wishes_told e.events ++ l) (sym (append-nil (wish_replied e.reply)))
+    ∙ ap (λ l. wishes_told l ++ wishes_replied (e.reply ∷ [])) (sym s.told)
+    ∙ ap (λ l. wishes_told (outcome_of b e s.wishes).log.events ++ wishes_replied l) (sym s.replied)
+    ∙ all_shown (free e.call) (plan_on b e.caller e.call) b s.wishes (keeps_free b e.caller e.call)
+
+-- one step leads to the board that its entry tells
+pub next_is : (b : Board) (e : Entry) (c : Board) → Step b e c → next_board b e ≡ c
+next_is b e c s =
+    let same = shown_followed (plan_on b e.caller e.call) b s.wishes (calls_steadily b e.caller e.call) in
+    ap (λ ws. counted b e.call (outcome_of b e ws).board) (wishes_are b e c s) ∙ ap (counted b e.call) same.board ∙ s.leads
+
+pub board_after_is_reached : (b : Board) (es : List Entry) (c : Board) → Leads b es c → board_after b es ≡ c
+board_after_is_reached b [] c leads = leads
+board_after_is_reached b (e ∷ es) c (next, step, leads) = ap (λ x. board_after x es) (next_is b e next step) ∙ board_after_is_reached next es c leads

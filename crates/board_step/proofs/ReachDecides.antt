@@ -1,0 +1,82 @@
+-- A step changes nothing outside its reach, and depends on nothing else but the published words.
+use Rattle.std.proofs.Common.{◌≡◌, Bool, true, false, refl, sym, ap, ◌∙◌, length}
+use Rattle.irq_base.specs.Callers.{is_allowed}
+use Rattle.irq_base.specs.declared.call.Call.{Call}
+use Rattle.irq_base.specs.declared.call.Caller.{Caller}
+use Rattle.irq_base.specs.declared.shape.Part.{Part}
+use Rattle.irq_base.specs.declared.shape.Part.TheVariants.{Registry, Counters, Tick, Pic, Ioapic, Lapic}
+use Rattle.board_model.specs.Board.{Board, part_of}
+use Rattle.board_model.specs.Routing.{routing_of_registry}
+use Rattle.board_model.specs.Run.{run, reaches}
+use Rattle.board_model.specs.Agreement.{RunsAlike}
+use Rattle.board_model.proofs.Alike.{agreeing_alike}
+use Rattle.board_model.proofs.Staying.{unreached_stays}
+use Rattle.board_model.proofs.Words.{published_decides}
+use Rattle.board_step.specs.Calls.{plan_of}
+use Rattle.board_step.specs.Step.{would_publish, with_counts, plan_on, outcome_of, counted}
+use Rattle.board_step.specs.Sound.{IsSound}
+use Rattle.board_step.specs.Laws.{StaysOutsideReach, AgreesForCall, DependsOnReach}
+use Rattle.board_step.proofs.ReachCalls.{reach_is_table}
+
+-- to count a call changes no part
+counted_part : (t : Bool) (b : Board) (q : Part) → part_of (with_counts t b) q ≡ part_of b q
+counted_part true b Registry = refl
+counted_part true b Counters = refl
+counted_part true b Tick = refl
+counted_part true b Pic = refl
+counted_part true b Ioapic = refl
+counted_part true b (Lapic n) = refl
+counted_part false b Registry = refl
+counted_part false b Counters = refl
+counted_part false b Tick = refl
+counted_part false b Pic = refl
+counted_part false b Ioapic = refl
+counted_part false b (Lapic n) = refl
+
+pub stays_outside_reach : StaysOutsideReach
+stays_outside_reach b e c q step outside =
+    sym (ap (λ (d : Board). part_of d q) step.leads)
+    ∙ counted_part (would_publish b e.call) (outcome_of b e step.wishes).board q
+    ∙ unreached_stays (plan_on b e.caller e.call) b step.wishes q (reach_is_table b e.caller e.call step.wishes q ∙ outside)
+
+-- boards of one shape that publish the same words have one plan for a call
+one_plan : (b d : Board) (caller : Caller) (call : Call) → IsSound b → IsSound d → AgreesForCall b d caller call → plan_on d caller call ≡ plan_on b caller call
+one_plan b d caller call sound other agrees =
+    let routing : routing_of_registry b.registry b.shape.tick ≡ routing_of_registry d.registry d.shape.tick = published_decides b.registry d.registry b.shape.tick d.shape.tick sound.registry other.registry agrees.words in
+    λ i. plan_of (sym routing i) (sym agrees.shape i) caller call
+
+pub depends_on_reach : DependsOnReach
+depends_on_reach b d e c sound other agrees in_limits step = record {
+  reaches = λ q.
+      sym (reach_is_table d e.caller e.call step.wishes q)
+      ∙ ap (λ m. reaches m d step.wishes q) same
+      ∙ sym (alike.reach q)
+      ∙ reach_is_table b e.caller e.call step.wishes q;
+  next = counted d e.call (outcome_of d e step.wishes).board;
+  step = record {
+    allowed = ap (λ shape. is_allowed e.caller e.call shape) (sym agrees.shape) ∙ step.allowed;
+    in_limits = in_limits;
+    wishes = step.wishes;
+    replied = ap (λ m. (run m d step.wishes).log.answers) same ∙ sym (ap (λ l. l.answers) alike.log) ∙ step.replied;
+    told = ap (λ m. (run m d step.wishes).log.events) same ∙ sym (ap (λ l. l.events) alike.log) ∙ step.told;
+    leads = refl;
+  };
+  parts = λ q within.
+      counted_part (would_publish d e.call) (outcome_of d e step.wishes).board q
+      ∙ ap (λ m. part_of (run m d step.wishes).board q) same
+      ∙ sym (alike.after q (agrees.parts q within))
+      ∙ sym (counted_part (would_publish b e.call) (outcome_of b e step.wishes).board q)
+      ∙ ap (λ (x : Board). part_of x q) step.leads;
+}
+  where
+    same : plan_on d e.caller e.call ≡ plan_on b e.caller e.call
+    same = one_plan b d e.caller e.call sound other agrees
+
+    lapics : length b.lapics ≡ length d.lapics
+    lapics = sound.lapics.places ∙ ap (λ shape. shape.cpus) agrees.shape ∙ sym other.lapics.places
+
+    alike : RunsAlike (plan_on b e.caller e.call) (plan_on b e.caller e.call) b d step.wishes
+    alike = agreeing_alike (plan_on b e.caller e.call) b d step.wishes (record {
+      lapics = lapics;
+      parts = λ q within. agrees.parts q (sym (reach_is_table b e.caller e.call step.wishes q) ∙ within);
+    })

@@ -1,0 +1,62 @@
+-- Holds that stand: one more, or fewer.
+use Rattle.std.proofs.Common.{◌≡◌, ℕ, ◌<◌, Bool, true, false, not, ◌&&◌, ◌||◌, inl, inr, refl, sym, ap, subst, ◌∙◌}
+use Rattle.std.specs.Prelude.{IsTrue, ◌⊎◌}
+use Rattle.std.specs.Cmp.{first_so, second_so, tied_itself}
+use Rattle.std.specs.FinSet as set
+use Rattle.std.specs.FinSet.{contains-insert, contains-remove, contains-retain}
+use Rattle.std.specs.Ordering.{eq_by_cmp, is_eq}
+use Rattle.irq_base.specs.declared.event.Pin.{Pin}
+use Rattle.irq_base.specs.declared.message.Source.{Source}
+use Rattle.irq_base.specs.declared.message.Source.TheVariants.{Resample}
+use Rattle.source_levels.specs.Holds.{Hold, Holds, hold, hold_cmp}
+use Rattle.source_levels.specs.HoldLemmas.{hold_cmp_total, hold_cmp-IsAntisymmetric, tied_same}
+use Rattle.board_model.specs.Registry.{RegistryPart}
+use Rattle.board_step.specs.Sound.{HasResampler, HoldsStand}
+
+inserted : (holds : Holds) (k q : Hold) → IsTrue (set.contains (set.insert holds k) q) → (q ≡ k) ⊎ IsTrue (set.contains holds q)
+inserted holds k q e =
+    elim (eq_by_cmp hold_cmp q k) as (λ t. eq_by_cmp hold_cmp q k ≡ t → (t || set.contains holds q) ≡ true → (q ≡ k) ⊎ IsTrue (set.contains holds q)) [
+      | true ↦ λ same _. inl (tied_same q k same)
+      | false ↦ λ _ old. inr old
+    ] refl (sym (contains-insert hold_cmp_total holds k q) ∙ e)
+
+-- a pin that there is, held by a source, is held as well
+pub hold_more : (r : RegistryPart) (holds : Holds) (count : ℕ) (chip : ℕ → Pin) (pin : ℕ) (source : Source) → HoldsStand r holds count chip → pin < count → (source ≡ Resample → HasResampler r (chip pin)) → HoldsStand r (set.insert holds (hold pin source)) count chip
+hold_more r holds count chip pin source s below resamples = record {
+  there = λ h held. elim (inserted holds (hold pin source) h held) [
+    | inl same ↦ subst (λ (x : Hold). x.pin < count) (sym same) below
+    | inr old ↦ s.there h old
+  ];
+  resample = λ p held. elim (inserted holds (hold pin source) (hold p Resample) held) [
+    | inl same ↦ subst (λ n. HasResampler r (chip n)) (sym (ap (λ (x : Hold). x.pin) same)) (resamples (sym (ap (λ (x : Hold). x.source) same)))
+    | inr old ↦ s.resample p old
+  ];
+}
+
+-- fewer holds
+pub hold_fewer : (r : RegistryPart) (holds fewer : Holds) (count : ℕ) (chip : ℕ → Pin) → ((h : Hold) → IsTrue (set.contains fewer h) → IsTrue (set.contains holds h)) → HoldsStand r holds count chip → HoldsStand r fewer count chip
+hold_fewer r holds fewer count chip old s = record { there = λ h held. s.there h (old h held); resample = λ p held. s.resample p (old (hold p Resample) held) }
+
+pub was_held : (holds : Holds) (k h : Hold) → IsTrue (set.contains (set.remove holds k) h) → IsTrue (set.contains holds h)
+was_held holds k h held = second_so _ _ (sym (contains-remove hold_cmp_total holds k h) ∙ held)
+
+-- what was removed is not there
+pub not_removed : (holds : Holds) (k : Hold) → IsTrue (set.contains (set.remove holds k) k) → ⊥
+not_removed holds k held = absurd (differs (eq_by_cmp hold_cmp k k) (set.contains holds k) (itself k) (sym (contains-remove hold_cmp_total holds k k) ∙ held))
+  where
+    itself : (h : Hold) → eq_by_cmp hold_cmp h h ≡ true
+    itself h = ap is_eq (tied_itself hold_cmp_total h)
+
+    differs : (a b : Bool) → a ≡ true → (not a && b) ≡ true → ⊥
+    differs true b e f = cc
+    differs false b e f = cc
+
+-- one hold less
+pub hold_less : (r : RegistryPart) (holds : Holds) (count : ℕ) (chip : ℕ → Pin) (k : Hold) → HoldsStand r holds count chip → HoldsStand r (set.remove holds k) count chip
+hold_less r holds count chip k s = hold_fewer r holds (set.remove holds k) count chip (was_held holds k) s
+
+-- what is retained was there, and passes the test
+pub retained : (holds : Holds) (p : Hold → Bool) (h : Hold) → IsTrue (set.contains (set.retain holds p) h) → IsTrue (set.contains holds h) × IsTrue (p h)
+retained holds p h held =
+    let both : (set.contains holds h && p h) ≡ true = sym (contains-retain holds p h (λ x tie. ap p (sym (hold_cmp-IsAntisymmetric h x tie)))) ∙ held in
+    (first_so _ _ both, second_so _ _ both)

@@ -1,0 +1,96 @@
+-- A board at power-on is sound.
+use Rattle.std.proofs.Common.{◌≡◌, ℕ, ◌+◌, ◌-◌, ◌^◌, ◌<◌, ◌≤◌, zero, suc, false, true≢false, List, [], ◌∷◌, ◌++◌, map, length, refl, sym, ap, subst, ◌∙◌, arith, length-append}
+use Rattle.std.specs.Prelude.{IsTrue, AllPairs, slice_get, unwrap_or}
+use Rattle.std.specs.FinSet as set
+use Rattle.std.specs.FinSet.{contains-empty}
+use Rattle.std.proofs.lemmas.List.{length-replicate}
+use Rattle.std.proofs.lemmas.List.Elements.{All-nil, All-replicate}
+use Rattle.irq_base.specs.declared.event.Pin.{Pin}
+use Rattle.irq_base.specs.declared.message.Source.TheVariants.{Resample}
+use Rattle.lapic.specs.Registers.{LocalApic, power_on}
+use Rattle.source_levels.specs.Holds.{Hold, hold, hold_cmp}
+use Rattle.irqfd_set.specs.declared.irqfds.Irqfd.{Irqfd}
+use Rattle.ack_notifiers.specs.declared.watches.Watch.{Watch}
+use Rattle.ioevent_set.specs.declared.row.IoRow.{IoRow}
+use Rattle.irqfd_set.specs.Rows.{has_trigger}
+use Rattle.ack_notifiers.specs.Rows.{is_named}
+use Rattle.ioevent_set.specs.Rows.{do_collide}
+use Rattle.board_model.specs.Registry.{RegistryPart}
+use Rattle.board_model.specs.Published.{IsSoundIrqfd}
+use Rattle.board_raise.specs.Fit.{IrqfdFits, WatchFits}
+use Rattle.board_raise.specs.Send.{numbers_below}
+use Rattle.board_step.specs.History.{opening_registry}
+use Rattle.board_step.specs.Sound.{HoldsStand}
+use Rattle.board_step.specs.Laws.{OpeningIsSound}
+use Rattle.board_step.proofs.SoundTable.{opening_table}
+
+-- local APICs whose numbers go up by one from a first
+abbrev Numbered : ℕ → List LocalApic → Type 0
+Numbered first [] = Unit {0}
+Numbered first (a ∷ more) = (a.number ≡ first) × Numbered (suc first) more
+
+one_more : (first : ℕ) (apics : List LocalApic) (a : LocalApic) → Numbered first apics → a.number ≡ first + length apics → Numbered first (apics ++ a ∷ [])
+one_more first [] a each e = (omega (arith, e), tt)
+one_more first (x ∷ xs) a each e = (each.0, one_more (suc first) xs a each.1 (omega (arith, e)))
+
+number_at : (first : ℕ) (apics : List LocalApic) (n : ℕ) (d : LocalApic) → Numbered first apics → d.number ≡ first + n → (unwrap_or (slice_get apics n) d).number ≡ first + n
+number_at first [] n d each e = e
+number_at first (x ∷ xs) zero d each e = omega (arith, each.0)
+number_at first (x ∷ xs) (suc n) d each e = let rest : (unwrap_or (slice_get xs n) d).number ≡ suc first + n = number_at (suc first) xs n d each.1 (omega (arith, e)) in omega (arith, rest)
+
+mapped : (ns : List ℕ) (n : ℕ) → map power_on (ns ++ n ∷ []) ≡ map power_on ns ++ power_on n ∷ []
+mapped [] n = refl
+mapped (k ∷ ks) n = ap (λ l. power_on k ∷ l) (mapped ks n)
+
+apics_many : (k : ℕ) → length (map power_on (numbers_below k)) ≡ k
+apics_many zero = refl
+apics_many (suc k) = ap length (mapped (numbers_below k) k) ∙ length-append (map power_on (numbers_below k)) (power_on k ∷ []) ∙ one (length (map power_on (numbers_below k))) (apics_many k)
+  where
+    one : (n : ℕ) → n ≡ k → n + 1 ≡ suc k
+    one n e = omega arith
+
+apics_numbered : (k : ℕ) → Numbered 0 (map power_on (numbers_below k))
+apics_numbered zero = tt
+apics_numbered (suc k) = subst (Numbered 0) (sym (mapped (numbers_below k) k)) (one_more 0 (map power_on (numbers_below k)) (power_on k) (apics_numbered k) (last (length (map power_on (numbers_below k))) (apics_many k)))
+  where
+    last : (n : ℕ) → n ≡ k → k ≡ 0 + n
+    last n e = omega arith
+
+no_holds : (r : RegistryPart) (count : ℕ) (chip : ℕ → Pin) → HoldsStand r set.empty count chip
+no_holds r count chip = record {
+  there = λ h held. absurd (none h held);
+  resample = λ pin held. absurd (none (hold pin Resample) held);
+}
+  where
+    none : (h : Hold) → IsTrue (set.contains (set.empty {R = hold_cmp}) h) → ⊥
+    none h held = true≢false (sym held ∙ contains-empty hold_cmp h)
+
+no_pairs : {X : Type 0} (R : X → X → Type 0) → AllPairs R []
+no_pairs R i j d less below = absurd (omega (arith, below))
+
+pub opening_is_sound : OpeningIsSound
+opening_is_sound shape limits = record {
+  limits = limits;
+  registry = record { table = opening_table; irqfds = All-nil IsSoundIrqfd; watches = All-nil (λ (row : Watch). row.gsi < 4096); ticks = limits.tick };
+  named = record { irqfds = All-nil (IrqfdFits shape.counters); watches = All-nil (WatchFits shape.counters); ioevents = All-nil (λ (e : IoRow). e.counter < shape.counters) };
+  distinct = record {
+    triggers = no_pairs (λ (row other : Irqfd). has_trigger row.trigger other ≡ false);
+    roles = All-nil _;
+    watches = no_pairs (λ (row other : Watch). is_named row.counter row.gsi other ≡ false);
+    watch_count = omega arith;
+    ioevents = no_pairs (λ (row other : IoRow). do_collide row other ≡ false);
+    ioevent_count = omega arith;
+  };
+  counts = record {
+    number = length-replicate {A = ℕ} shape.counters 0;
+    greatest = All-replicate (λ count. count ≤ 2 ^ 64 - 2) shape.counters 0 (omega arith);
+    triggers = λ counter count on at. absurd (true≢false (sym on));
+  };
+  pending = omega arith;
+  lapics = record { places = apics_many shape.cpus; numbers = λ n. let at : (unwrap_or (slice_get (map power_on (numbers_below shape.cpus)) n) (power_on n)).number ≡ 0 + n = number_at 0 (map power_on (numbers_below shape.cpus)) n (power_on n) (apics_numbered shape.cpus) (omega arith) in omega (arith, at) };
+  entries = refl;
+  pic_holds = no_holds opening_registry 16 _;
+  ioapic_holds = no_holds opening_registry 24 _;
+  calls = omega arith;
+  publications = omega arith;
+}

@@ -1,0 +1,221 @@
+-- A step from a sound board leads to a sound board.
+use Rattle.std.proofs.Common.{◌≡◌, ℕ, ◌+◌, ◌<◌, ◌≤◌, Bool, true, false, All, ◌&&◌, nat_eq, nat_le, if◌then◌else◌, List, [], ◌∷◌, length, Some, None, IfSome, refl, sym, subst, ◌∙◌, arith}
+use Rattle.std.specs.declared.option.Option.{Option}
+use Rattle.irq_base.specs.Refusals.{first_of}
+use Rattle.irq_base.specs.declared.call.Call.{Call}
+use Rattle.irq_base.specs.declared.call.Call.TheVariants.{Line, Msi, Write, Take, Assign, Deassign, Reroute, Attach, Detach, Watch, Unwatch, Tick, TickMode, PortOut, PortIn, Store, Load, Ack, Inta, Eoi}
+use Rattle.irq_base.specs.declared.call.Caller.{Caller}
+use Rattle.irq_base.specs.declared.lists.Entry.{Entry}
+use Rattle.irq_base.specs.declared.refusal.Refusal.TheVariants.{NoGsi, NoCounter, BadRange, ChipAddress}
+use Rattle.irq_base.specs.declared.reply.Spent.{Spent}
+use Rattle.irq_base.specs.declared.reply.Spent.TheVariants.{Calls, Publications}
+use Rattle.irq_base.specs.declared.shape.Part.TheVariants as parts
+use Rattle.irq_base.specs.declared.shape.Shape.{Shape}
+use Rattle.tick_reinject.specs.declared.state.TickState.{TickState}
+use Rattle.tick_reinject.specs.Ticks.{ticked, tick_injects}
+use Rattle.board_model.specs.Registry.{RegistryPart}
+use Rattle.board_model.specs.Routing.{Routing, routing_of_registry}
+use Rattle.board_model.specs.Board.{Board}
+use Rattle.board_model.specs.Plan.{the_reply}
+use Rattle.board_model.specs.Run.{Wishes, run}
+use Rattle.board_model.proofs.Staying.{frame_stays}
+use Rattle.board_raise.specs.Fit.{InLimits}
+use Rattle.board_step.specs.Laws.{IsTyped, StepsKeepSound, HistoriesKeepSound}
+use Rattle.board_step.specs.History.{opening, Leads}
+use Rattle.board_step.proofs.SoundOpening.{opening_is_sound}
+use Rattle.std.proofs.lemmas.List.Elements.{All-head, All-tail}
+use Rattle.board_step.specs.Refusals.{range_reasons, bad_gsi, bad_counter, bad_resample, bad_ioevent, is_chip_address}
+use Rattle.board_step.specs.Ticks.{tick_or_hold}
+use Rattle.board_step.specs.Calls.{number_of, io_row, plan_in_range}
+use Rattle.board_step.specs.Step.{would_publish, plan_on, with_counts}
+use Rattle.board_step.specs.Sound.{IsSound}
+use Rattle.board_step.proofs.SoundPlans.{Each, Keeps, each_with}
+use Rattle.board_step.proofs.SoundRegistry.{RegistryFine}
+use Rattle.board_step.proofs.SoundAcks.{inject_tick_keeps}
+use Rattle.board_step.proofs.SoundCalls.{line_keeps, message_keeps, write_keeps, take_keeps, tick_mode_keeps, eoi_keeps, inta_keeps, next_keeps, port_out_keeps, port_in_keeps, store_keeps, load_keeps}
+use Rattle.board_step.proofs.SoundChanges.{Whole, kept_whole, unless_whole, less_of, attach_whole, detach_whole, watch_whole, unwatch_whole, assign_whole}
+use Rattle.board_step.proofs.SoundLeaving.{deassign_whole, reroute_whole}
+use Rattle.route_table.specs.Sound.{no_reason}
+
+-- ---- a tick more may be pending
+
+wider : (r : RegistryPart) (shape : Shape) (low high : ℕ) (b : Board) → low ≤ high → Each r shape low b → Each r shape high b
+wider r shape low high b more each parts.Registry = each parts.Registry
+wider r shape low high b more each parts.Counters = each parts.Counters
+wider r shape low high b more each parts.Tick = let few : b.tick.pending ≤ low = each parts.Tick in omega (arith, few, more)
+wider r shape low high b more each parts.Pic = each parts.Pic
+wider r shape low high b more each parts.Ioapic = each parts.Ioapic
+wider r shape low high b more each (parts.Lapic n) = each (parts.Lapic n)
+
+ticked_low : (s : TickState) (bound : ℕ) → s.pending ≤ bound → (ticked s).pending ≤ bound + 1
+ticked_low s bound low = elim s.reinjects as (λ t. (if t then record s { pending = s.pending + 1 } else s).pending ≤ bound + 1) [ true ↦ more s.pending low | false ↦ same s.pending low ]
+  where
+    more : (n : ℕ) → n ≤ bound → n + 1 ≤ bound + 1
+    more n low = omega arith
+
+    same : (n : ℕ) → n ≤ bound → n ≤ bound + 1
+    same n low = omega arith
+
+-- ---- each call
+
+resample_below : (shape : Shape) (resample : Option ℕ) → first_of (bad_resample shape resample) ≡ None → IfSome resample (λ c. c < shape.counters)
+resample_below shape None none = tt
+resample_below shape (Some counter) none = less_of shape.counters counter (no_reason (nat_le shape.counters counter) NoCounter [] none).0
+
+module _ (b : Board) (ws : Wishes) (fine : RegistryFine b.shape b.registry) (each : Each b.registry b.shape b.length b) (few : b.shape.counters ≤ 256) where
+  abbrev bound : ℕ
+  bound = b.length + 1
+
+  abbrev routing : Routing
+  routing = routing_of_registry b.registry b.shape.tick
+
+  more : Each b.registry b.shape bound b
+  more = wider b.registry b.shape b.length bound b (omega arith) each
+
+  whole : Whole b.shape bound b
+  whole = record { fine = fine; each = more }
+
+  keeps : (n : ℕ) (call : Call) → Keeps b.registry b.shape bound (plan_in_range routing b.shape n call) → Whole b.shape bound (run (plan_in_range routing b.shape n call) b ws).board
+  keeps n call k = kept_whole b.shape bound b.registry (plan_in_range routing b.shape n call) b ws fine k more
+
+  tick_or_hold_keeps : (after : TickState) (t : Bool) → Keeps b.registry b.shape bound (tick_or_hold routing b.shape after t)
+  tick_or_hold_keeps after true = inject_tick_keeps b.shape b.registry bound fine (λ pic. the_reply pic)
+  tick_or_hold_keeps after false = tt
+
+  in_range : (n : ℕ) (call : Call) → IsTyped call → first_of (range_reasons b.shape call) ≡ None → Whole b.shape bound (run (plan_in_range routing b.shape n call) b ws).board
+  in_range n (Line gsi line high) typed none = keeps n (Line gsi line high) (line_keeps b.shape b.registry bound fine gsi line high)
+  in_range n (Msi address payload) typed none = keeps n (Msi address payload) (message_keeps b.shape b.registry bound fine address payload)
+  in_range n (Write counter count) typed none = keeps n (Write counter count) (write_keeps b.shape b.registry bound fine (routing.trigger counter) counter count refl)
+  in_range n (Take counter) typed none = keeps n (Take counter) (take_keeps b.shape b.registry bound fine counter)
+  in_range n (Assign trigger gsi resample) typed none =
+      let one = no_reason (nat_le b.shape.counters trigger) NoCounter (bad_gsi gsi ∷ bad_resample b.shape resample) none in
+      let two = no_reason (nat_le 4096 gsi) NoGsi (bad_resample b.shape resample) one.1 in
+      assign_whole b.shape bound b ws whole trigger gsi resample few (less_of b.shape.counters trigger one.0) (less_of 4096 gsi two.0) (resample_below b.shape resample two.1)
+  in_range n (Deassign trigger gsi) typed none = deassign_whole b.shape bound b ws whole trigger gsi
+  in_range n (Reroute rows) typed none = reroute_whole b.shape bound b ws whole rows none typed
+  in_range n (Attach space address len counter want) typed none =
+      let one = no_reason (bad_ioevent space address len want).0 BadRange (bad_counter b.shape counter ∷ (is_chip_address space address, ChipAddress) ∷ []) none in
+      let two = no_reason (nat_le b.shape.counters counter) NoCounter ((is_chip_address space address, ChipAddress) ∷ []) one.1 in
+      attach_whole b.shape bound b ws whole (io_row space address len counter want) (less_of b.shape.counters counter two.0)
+  in_range n (Detach space address len counter want) typed none = detach_whole b.shape bound b ws whole (io_row space address len counter want)
+  in_range n (Watch counter gsi) typed none =
+      let one = no_reason (nat_le b.shape.counters counter) NoCounter (bad_gsi gsi ∷ []) none in
+      watch_whole b.shape bound b ws whole counter gsi (less_of b.shape.counters counter one.0) (less_of 4096 gsi (no_reason (nat_le 4096 gsi) NoGsi [] one.1).0)
+  in_range n (Unwatch counter gsi) typed none = unwatch_whole b.shape bound b ws whole counter gsi
+  in_range n Tick typed none =
+      kept_whole b.shape bound b.registry (tick_or_hold routing b.shape (ticked b.tick) (tick_injects b.tick)) (record b { tick = ticked b.tick }) ws fine
+      (tick_or_hold_keeps (ticked b.tick) (tick_injects b.tick)) (each_with b.registry b.shape bound b parts.Tick (ticked b.tick) more (ticked_low b.tick b.length (each parts.Tick)))
+  in_range n (TickMode reinject) typed none = keeps n (TickMode reinject) (tick_mode_keeps b.shape b.registry bound fine reinject)
+  in_range n (PortOut port len value) typed none = keeps n (PortOut port len value) (port_out_keeps b.shape b.registry bound fine port len value)
+  in_range n (PortIn port len) typed none = keeps n (PortIn port len) (port_in_keeps b.shape b.registry bound fine port len)
+  in_range n (Store address len value) typed none = keeps n (Store address len value) (store_keeps b.shape b.registry bound fine n address len value)
+  in_range n (Load address len) typed none = keeps n (Load address len) (load_keeps b.shape b.registry bound fine n address len)
+  in_range n Ack typed none = keeps n Ack (next_keeps b.shape b.registry bound fine n)
+  in_range n Inta typed none = keeps n Inta (inta_keeps b.shape b.registry bound fine)
+  in_range n Eoi typed none = keeps n Eoi (eoi_keeps b.shape b.registry bound fine n)
+
+  call_whole : (caller : Caller) (call : Call) → IsTyped call → Whole b.shape bound (run (plan_on b caller call) b ws).board
+  call_whole caller call typed = unless_whole b.shape bound b ws (first_of (range_reasons b.shape call)) (plan_in_range routing b.shape (number_of caller) call) whole (in_range (number_of caller) call typed)
+
+-- ---- the counts
+
+-- the publications after a call that is one, or is none
+abbrev published_by : Bool → ℕ → ℕ
+published_by true n = n + 1
+published_by false n = n
+
+sound_counted : (o : Board) (t : Bool) → InLimits o.shape → Whole o.shape (o.length + 1) o → length o.lapics ≡ o.shape.cpus → o.length + 1 ≤ o.shape.calls → published_by t o.publications ≤ o.shape.publications → IsSound (with_counts t o)
+sound_counted o true limits w places calls publications =
+    let counts = w.each parts.Counters in
+    record {
+      limits = limits;
+      registry = w.fine.sound;
+      named = w.fine.named;
+      distinct = w.fine.distinct;
+      counts = record { number = counts.number; greatest = counts.greatest; triggers = counts.triggers };
+      pending = w.each parts.Tick;
+      lapics = record { places = places; numbers = λ n. w.each (parts.Lapic n) };
+      entries = (w.each parts.Ioapic).entries;
+      pic_holds = w.each parts.Pic;
+      ioapic_holds = (w.each parts.Ioapic).holds;
+      calls = calls;
+      publications = publications;
+    }
+sound_counted o false limits w places calls publications =
+    let counts = w.each parts.Counters in
+    record {
+      limits = limits;
+      registry = w.fine.sound;
+      named = w.fine.named;
+      distinct = w.fine.distinct;
+      counts = record { number = counts.number; greatest = counts.greatest; triggers = counts.triggers };
+      pending = w.each parts.Tick;
+      lapics = record { places = places; numbers = λ n. w.each (parts.Lapic n) };
+      entries = (w.each parts.Ioapic).entries;
+      pic_holds = w.each parts.Pic;
+      ioapic_holds = (w.each parts.Ioapic).holds;
+      calls = calls;
+      publications = publications;
+    }
+
+-- no limit bars the call
+not_spent : (shape : Shape) (now many : ℕ) (t : Bool) → now ≤ shape.calls → many ≤ shape.publications → (if nat_eq now shape.calls then Some (Calls shape.calls) else if t && nat_eq many shape.publications then Some (Publications shape.publications) else None) ≡ None → (now + 1 ≤ shape.calls) × (published_by t many ≤ shape.publications)
+not_spent shape now many t calls publications none =
+    elim (nat_eq now shape.calls) as (λ q. nat_eq now shape.calls ≡ q → (if q then Some (Calls shape.calls) else if t && nat_eq many shape.publications then Some (Publications shape.publications) else None) ≡ None → (now + 1 ≤ shape.calls) × (published_by t many ≤ shape.publications)) [
+      | true ↦ λ _ e. absurd (some_is_none (Calls shape.calls) e)
+      | false ↦ λ off e. (below now shape.calls calls off, later t e)
+    ] refl none
+  where
+    some_is_none : (s : Spent) → Some s ≡ None → ⊥
+    some_is_none s e = cc
+
+    below : (a c : ℕ) → a ≤ c → nat_eq a c ≡ false → a + 1 ≤ c
+    below a c le ne = grind arith
+
+    later : (t : Bool) → (if t && nat_eq many shape.publications then Some (Publications shape.publications) else None) ≡ None → published_by t many ≤ shape.publications
+    later false e = publications
+    later true e = elim (nat_eq many shape.publications) as (λ q. nat_eq many shape.publications ≡ q → (if q then Some (Publications shape.publications) else None) ≡ None → many + 1 ≤ shape.publications) [
+      | true ↦ λ _ f. absurd (some_is_none (Publications shape.publications) f)
+      | false ↦ λ off _. below many shape.publications publications off
+    ] refl e
+
+each_of : (b : Board) → IsSound b → Each b.registry b.shape b.length b
+each_of b s parts.Registry = refl
+each_of b s parts.Counters = record { number = s.counts.number; greatest = s.counts.greatest; triggers = s.counts.triggers }
+each_of b s parts.Tick = s.pending
+each_of b s parts.Pic = s.pic_holds
+each_of b s parts.Ioapic = record { entries = s.entries; holds = s.ioapic_holds }
+each_of b s (parts.Lapic n) = s.lapics.numbers n
+
+-- the frame of the board after a call, in its own terms
+record Framed (b o : Board) (t : Bool) (shape : Shape) (now many : ℕ) : Type 0 where
+  limits : InLimits shape
+  whole : Whole shape (now + 1) o
+  places : length o.lapics ≡ shape.cpus
+  calls : now + 1 ≤ shape.calls
+  publications : published_by t many ≤ shape.publications
+
+pub steps_keep_sound : StepsKeepSound
+steps_keep_sound b e c s typed step =
+    let plan = plan_on b e.caller e.call in
+    let o = (run plan b step.wishes).board in
+    let t = would_publish b e.call in
+    let frame = frame_stays plan b step.wishes in
+    let spent = not_spent b.shape b.length b.publications t s.calls s.publications step.in_limits in
+    let before : Framed b o t b.shape b.length b.publications = record {
+      limits = s.limits;
+      whole = call_whole b step.wishes (record { sound = s.registry; named = s.named; distinct = s.distinct }) (each_of b s) s.limits.counters e.caller e.call typed;
+      places = frame.lapics ∙ s.lapics.places;
+      calls = spent.0;
+      publications = spent.1;
+    } in
+    let after : Framed b o t o.shape o.length o.publications = subst (λ (x : Shape × ℕ × ℕ). Framed b o t x.0 x.1 x.2) (λ i. (sym frame.shape i, sym frame.length i, sym frame.publications i)) before in
+    subst IsSound step.leads (sound_counted o t after.limits after.whole after.places after.calls after.publications)
+
+leads_to_sound : (b : Board) (es : List Entry) (last : Board) → IsSound b → All (λ (e : Entry). IsTyped e.call) es → Leads b es last → IsSound last
+leads_to_sound b [] last s typed same = subst IsSound same s
+leads_to_sound b (e ∷ es) last s typed (next, step, later) =
+    leads_to_sound next es last (steps_keep_sound b e next s (All-head (λ (x : Entry). IsTyped x.call) e es typed) step) (All-tail (λ (x : Entry). IsTyped x.call) e es typed) later
+
+pub histories_keep_sound : HistoriesKeepSound
+histories_keep_sound shape es last limits typed leads = leads_to_sound (opening shape) es last (opening_is_sound shape limits) typed leads

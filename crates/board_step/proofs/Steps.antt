@@ -1,0 +1,11 @@
+-- An entry leads from a board to one board at most.
+use Rattle.std.proofs.Common.{◌≡◌, sym, ap, ◌∙◌}
+use Rattle.irq_base.specs.declared.lists.Entry.{Entry}
+use Rattle.board_model.specs.Board.{Board}
+use Rattle.board_model.proofs.Showing.{shown_decides}
+use Rattle.board_step.specs.Step.{plan_on, counted, Step}
+
+pub leads_to_one : (b : Board) (e : Entry) (c d : Board) → Step b e c → Step b e d → c ≡ d
+leads_to_one b e c d one other =
+    let same = shown_decides (plan_on b e.caller e.call) b one.wishes other.wishes (one.told ∙ sym other.told) (one.replied ∙ sym other.replied) in
+    sym one.leads ∙ ap (counted b e.call) same.board ∙ other.leads

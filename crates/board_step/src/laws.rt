@@ -1,0 +1,46 @@
+//! The laws of steps: functions with no body, the contract of each being a law.
+
+ghost use Rattle.board_step.specs.Laws.{LeadsToOne, CallsSteadily, BoardAfterIsReached, AnswersOnce, AlwaysAnswers, RefusesFirst, RefusedRightly, WordsStay};
+
+/// A law: an entry leads from a board to one board at most.
+pub fn leads_to_one()
+    ensures { LeadsToOne }
+{}
+
+/// A law: the choices of a call can be followed, whatever it does: to wish for what it reached is to reach it again.
+pub fn calls_steadily()
+    ensures { CallsSteadily }
+{}
+
+/// A law: a history leads from a board to one board at most, and that is the one which its entries tell.
+pub fn board_after_is_reached()
+    ensures { BoardAfterIsReached }
+{}
+
+/// A law: each call answers exactly once, on every board and under all wishes.
+#[tactic(auto, using(crate::proofs::CountingAnswers::answers_once))]
+pub fn answers_once()
+    ensures { AnswersOnce }
+{}
+
+/// A law: on a sound board each call that is allowed to its caller, and that no limit bars, has a step: one reply, and at
+/// most 560 events.
+#[tactic(auto, using(crate::proofs::CountingAnswers::always_answers))]
+pub fn always_answers()
+    ensures { AlwaysAnswers }
+{}
+
+/// A law: a call that the board refuses answers that refusal alone, tells nothing and changes nothing, whatever is wished.
+pub fn refuses_first()
+    ensures { RefusesFirst }
+{}
+
+/// A law: a call that answers a refusal is one that the board refuses, for that reason.
+pub fn refused_rightly()
+    ensures { RefusedRightly }
+{}
+
+/// A law: a step that is no publication leaves the published words.
+pub fn words_stay()
+    ensures { WordsStay }
+{}
