@@ -144,8 +144,11 @@ module _ (r : RegistryPart) where
         follows = follow_both o.board last.board two.pic two.ioapic o.log.events last.log.events one.follows two.follows;
       }
 
+  pub does_bind : {A B : Type 0} (f : A → Plan B) (m : Plan A) (b : Board) (ws : Wishes) → Does b (run m b ws) → ((a : A) → Acks (f a)) → Does b (run (m >>= f) b ws)
+  does_bind {A} {B} f m b ws h next = subst (λ (o : Outcome B). Does b o) (sym (run-bind f m b ws)) (then_does b (run m b ws) f h (next (run m b ws).value))
+
   pub acks_bind : {A B : Type 0} (f : A → Plan B) (m : Plan A) → Acks m → ((a : A) → Acks (f a)) → Acks (m >>= f)
-  acks_bind {A} {B} f m h next = λ b ws is. subst (λ (o : Outcome B). Does b o) (sym (run-bind f m b ws)) (then_does b (run m b ws) f (h b ws is) (next (run m b ws).value))
+  acks_bind f m h next = λ b ws is. does_bind f m b ws (h b ws is) next
 
   pub acks_then : {A B : Type 0} (m : Plan A) (n : Plan B) → Acks m → Acks n → Acks (m >> n)
   acks_then m n h next = acks_bind (λ _. n) m h (λ _. next)
@@ -318,7 +321,7 @@ module _ (r : RegistryPart) where
 
     -- ---- steps 4 and 5
 
-    resend_minds : (w : Care) (cpus pin : ℕ) (message : Option Message) → Minds w (resend cpus pin message)
+    pub resend_minds : (w : Care) (cpus pin : ℕ) (message : Option Message) → Minds w (resend cpus pin message)
     resend_minds w cpus pin None = tt
     resend_minds w cpus pin (Some message) = minds_bind w (λ answer. accept_pin pin (is_accepted message answer)) (send cpus message None (resent pin)) (send_minds w cpus message None (resent pin)) (λ answer. accept_pin_minds w pin (is_accepted message answer))
 
@@ -326,7 +329,7 @@ module _ (r : RegistryPart) where
     level_minds w cpus (pins.Pic pin) = tt
     level_minds w cpus (pins.Ioapic pin) = λ part fine. minds_if w (entry_at (ioapic_of part) pin).level (clear_and_resend cpus pin part) (done tt) (fine, resend_minds w cpus pin (resend_of (acknowledged (ioapic_of part) pin) pin)) tt
 
-    tick_minds : (w : Care) (about : Option TargetAnswer → About) → Minds w (inject_tick routing shape about)
+    pub tick_minds : (w : Care) (about : Option TargetAnswer → About) → Minds w (inject_tick routing shape about)
     tick_minds w about = minds_bind w (λ status. change parts.Tick (λ tick. tick_injected tick status)) (inject shape.cpus (routing.targets shape.tick) TickSource about)
         (inject_minds w TickSource (tick_may w) shape.cpus (routing.targets shape.tick) about) (λ status tick fine. (tt, tt))
 
