@@ -1,6 +1,5 @@
 -- What an acknowledge leaves: each resample counter of its GSI is told at once and signalled, and Resample lets its pins go.
 use Rattle.std.proofs.Common.{◌≡◌, ℕ, Bool, true, false, not, ◌||◌, nat_eq, cond, if◌then◌else◌, List, [], ◌∷◌, ◌++◌, map, Some, None, refl, sym, ap, subst, ◌∙◌, append_assoc, append-nil}
-use Rattle.std.specs.Prelude.{IsTrue, fold}
 use Rattle.std.specs.declared.option.Option.{Option}
 use Rattle.std.specs.Cmp.{unsigned_Decides}
 use Rattle.std.specs.FinMap as fin_map
@@ -25,10 +24,10 @@ use Rattle.resampler.specs.Resample.{resampled, resample_events}
 use Rattle.ack_notifiers.specs.Rows.{has_watch, watched, watch_events}
 use Rattle.route_table.specs.Rows.{Table, is_same, targets_of}
 use Rattle.route_table.specs.Pins.{has_pin, gsi_of}
-use Rattle.tick_reinject.specs.Ticks.{ack_injects, tick_acked, tick_injected}
+use Rattle.tick_reinject.specs.Ticks.{ack_injects, tick_injected}
 use Rattle.board_model.specs.Registry.{RegistryPart}
 use Rattle.board_model.specs.Routing.{Routing, routing_of_registry}
-use Rattle.board_model.specs.Chips.{IoapicPart, ioapic_of}
+use Rattle.board_model.specs.Chips.{ioapic_of}
 use Rattle.board_model.specs.Board.{Board, with_part}
 use Rattle.board_model.specs.Statuses.{TargetAnswer}
 use Rattle.board_model.specs.Plan.{About, injected, resent, Plan, done, tell, change, ◌>>=◌, ◌>>◌}
@@ -39,7 +38,7 @@ use Rattle.board_raise.specs.Signal.{is_accepted, accept_pin, let_go_pic, let_go
 use Rattle.board_ack.specs.Ticks.{inject_tick, inject_next, acknowledge_tick}
 use Rattle.board_ack.specs.Acknowledge.{say_each, signal_each, resample, notify, resample_and_notify, tell_concerned, resend, clear_and_resend, end_level, end_tick, acknowledge, acknowledge_each}
 use Rattle.board_step.specs.HistoryLaws.{counter_told, counters_told, IsReleased}
-use Rattle.board_step.proofs.ResamplingPlans.{Care, Unheld, AreQuiet, is_quiet, Minds, minds_bind, minds_then, minds_if, Leaves, leaves, fewer_held, gone, tick_may, send_minds, accept_pin_minds, let_go_minds, inject_minds}
+use Rattle.board_step.proofs.ResamplingPlans.{Care, Unheld, AreQuiet, Minds, minds_bind, minds_then, minds_if, Leaves, leaves, gone, tick_may, send_minds, accept_pin_minds, let_go_minds, inject_minds}
 
 -- ---- the pins of a GSI
 

@@ -1,9 +1,9 @@
 -- What calls leave: they acknowledge as they are to, or they tell no acknowledge at all.
-use Rattle.std.proofs.Common.{◌≡◌, ℕ, ◌-◌, Bool, true, false, nat_eq, nat_lt, if◌then◌else◌, ◌⊎◌, inl, inr, List, [], ◌∷◌, is_some, Some, None, refl, ◌∙◌}
+use Rattle.std.proofs.Common.{◌≡◌, ℕ, ◌-◌, Bool, true, false, nat_eq, nat_lt, if◌then◌else◌, ◌⊎◌, inl, inr, List, is_some, Some, None, refl}
 use Rattle.std.specs.Prelude.{slice_index}
 use Rattle.std.specs.declared.option.Option.{Option}
 use Rattle.irq_bits.specs.Members.{greatest_vector}
-use Rattle.irq_base.specs.Refusals.{Reason, first_of}
+use Rattle.irq_base.specs.Refusals.{first_of}
 use Rattle.irq_base.specs.declared.call.Call.{Call}
 use Rattle.irq_base.specs.declared.call.Call.TheVariants as calls
 use Rattle.irq_base.specs.declared.call.Caller.{Caller}
@@ -23,7 +23,7 @@ use Rattle.ioapic_82093aa.specs.Pins.{write_to, resend_of}
 use Rattle.lapic.specs.declared.outcome.Effect.{Effect as LapicEffect}
 use Rattle.lapic.specs.declared.outcome.Effect.TheVariants as effects
 use Rattle.lapic.specs.Registers.{LocalApic}
-use Rattle.lapic.specs.Priority.{giveable_of, without_service}
+use Rattle.lapic.specs.Priority.{without_service}
 use Rattle.lapic.specs.Offsets.{store_to, store_effect}
 use Rattle.msi_decode.specs.Messages.{message_in}
 use Rattle.event_counter.specs.Counters.{written}
@@ -35,18 +35,18 @@ use Rattle.ioevent_set.specs.Rows.{rung_by}
 use Rattle.board_model.specs.declared.trigger.TriggerWord.{TriggerWord}
 use Rattle.board_model.specs.Registry.{RegistryPart}
 use Rattle.board_model.specs.Routing.{Routing, routing_of_registry}
-use Rattle.board_model.specs.Chips.{PicPart, pair_of, with_pair, ioapic_of}
+use Rattle.board_model.specs.Chips.{pair_of, with_pair, ioapic_of}
 use Rattle.board_model.specs.Board.{Board, with_part}
 use Rattle.board_model.specs.Plan.{injected, ipi, the_reply, Plan, done, put, reply, set as put_part, ◌>>=◌, ◌>>◌}
-use Rattle.board_model.specs.Run.{Wishes, Outcome, run}
+use Rattle.board_model.specs.Run.{Wishes, run}
 use Rattle.board_raise.specs.Send.{send}
 use Rattle.board_raise.specs.Signal.{raise, inject}
 use Rattle.board_ack.specs.Acknowledge.{acknowledge_each}
 use Rattle.board_step.specs.Refusals.{range_reasons, write_reasons, assign_reasons, attach_reasons, detach_reasons, watch_reasons, unwatch_reasons, is_ioapic_address, is_lapic_address}
-use Rattle.board_step.specs.Registrations.{unless_refused, unless_one_of, line_set, message_sent, source_of, trigger_written, write, take, inject_count, assigned, assign, was_last_resampler, release, deassigned, deassign, reroute, attach, detach, watch, unwatch}
+use Rattle.board_step.specs.Registrations.{unless_refused, line_set, message_sent, source_of, trigger_written, write, take, inject_count, assigned, assign, was_last_resampler, release, deassigned, deassign, reroute, attach, detach, watch, unwatch}
 use Rattle.board_step.specs.Ticks.{tick_or_hold, tick}
-use Rattle.board_step.specs.Processors.{pic_pin, pins_with, end_vector, ended_reply, end_of_interrupt, cycle_pins, cycle_made, inta, given_reply, give, hears_pair, give_of_pair, take_nmi, next_interrupt}
-use Rattle.board_step.specs.Accesses.{pair_written, pair_write, pair_gave, pair_read, resend_written, ioapic_written, ioapic_store, ioapic_load, store_effects, lapic_stored, lapic_store, lapic_load, ring_counter, rung, ring, port_out, port_in, store, load}
+use Rattle.board_step.specs.Processors.{pic_pin, pins_with, end_vector, ended_reply, end_of_interrupt, cycle_pins, cycle_made, inta, give, hears_pair, give_of_pair, take_nmi, next_interrupt}
+use Rattle.board_step.specs.Accesses.{pair_written, pair_write, pair_gave, pair_read, resend_written, ioapic_written, ioapic_store, ioapic_load, store_effects, lapic_stored, lapic_store, lapic_load, ring_counter, rung, ring, store, load}
 use Rattle.board_step.specs.Calls.{number_of, io_row, plan_in_range, plan_of}
 use Rattle.board_step.proofs.ResamplingPlans.{Care, AreQuiet, MayHold, Minds, minds_bind, minds_then, minds_if, Leaves, leaves, send_minds, let_go_minds, lower_minds, raise_minds, inject_minds}
 use Rattle.board_step.proofs.ResamplingAcks.{Does, Acks, does_bind, acks_then, acks_if, acks_quietly, resend_minds, tick_minds, each_acks}
