@@ -49,7 +49,7 @@ use Rattle.board_step.specs.Processors.{pic_pin, pins_with, end_vector, ended_re
 use Rattle.board_step.specs.Accesses.{pair_written, pair_write, pair_gave, pair_read, resend_written, ioapic_written, ioapic_store, ioapic_load, store_effects, lapic_stored, lapic_store, lapic_load, ring_counter, rung, ring, store, load}
 use Rattle.board_step.specs.Calls.{number_of, io_row, plan_in_range, plan_of}
 use Rattle.board_step.proofs.ResamplingPlans.{Care, AreQuiet, MayHold, Minds, minds_bind, minds_then, minds_if, Leaves, leaves, send_minds, let_go_minds, lower_minds, raise_minds, inject_minds}
-use Rattle.board_step.proofs.ResamplingAcks.{Does, Acks, does_bind, acks_then, acks_if, acks_quietly, resend_minds, tick_minds, each_acks}
+use Rattle.board_step.proofs.ResamplingOwed.{Pays, Settles, pays_bind, settles_then, settles_if, settles_quietly, resend_minds, tick_minds, each_settles}
 
 -- ---- calls without an acknowledge
 
@@ -144,105 +144,105 @@ module _ (r : RegistryPart) (shape : Shape) where
 
   -- ---- calls that acknowledge
 
-  reply_acks : (answer : Reply) → Acks r (reply answer)
-  reply_acks answer = acks_quietly r (reply answer) (λ _. tt)
+  reply_acks : (answer : Reply) → Settles r (reply answer)
+  reply_acks answer = settles_quietly r (reply answer) (λ _. tt)
 
-  does_if : {A : Type 0} (t : Bool) (m n : Plan A) (b : Board) (ws : Wishes) → Does r b (run m b ws) → Does r b (run n b ws) → Does r b (run (if t then m else n) b ws)
+  does_if : {A : Type 0} (t : Bool) (m n : Plan A) (b : Board) (ws : Wishes) → Pays r b (run m b ws) → Pays r b (run n b ws) → Pays r b (run (if t then m else n) b ws)
   does_if true m n b ws h k = h
   does_if false m n b ws h k = k
 
   -- the registers of the pair are written first
-  pair_does : {A : Type 0} (after : Pair) (m : Plan A) → Acks r m → (b : Board) (ws : Wishes) → b.registry ≡ r → Does r b (run (put parts.Pic (with_pair b.pic after) m) b ws)
+  pair_does : {A : Type 0} (after : Pair) (m : Plan A) → Settles r m → (b : Board) (ws : Wishes) → b.registry ≡ r → Pays r b (run (put parts.Pic (with_pair b.pic after) m) b ws)
   pair_does after m h b ws is =
       let d = h (with_part b parts.Pic (with_pair b.pic after)) ws is in
-      record { registry = d.registry; counts = d.counts; pic = d.pic; ioapic = d.ioapic; follows = d.follows }
+      record { does = record { registry = d.does.registry; counts = d.does.counts; pic = d.does.pic; ioapic = d.does.ioapic; follows = d.does.follows }; once = d.once }
 
   -- a local APIC is written first
-  lapic_acks : {A : Type 0} (n : ℕ) (apic : LocalApic) (m : Plan A) → Acks r m → Acks r (put (parts.Lapic n) apic m)
+  lapic_acks : {A : Type 0} (n : ℕ) (apic : LocalApic) (m : Plan A) → Settles r m → Settles r (put (parts.Lapic n) apic m)
   lapic_acks n apic m h = λ b ws is.
       let d = h (with_part b (parts.Lapic n) apic) ws is in
-      record { registry = d.registry; counts = d.counts; pic = d.pic; ioapic = d.ioapic; follows = d.follows }
+      record { does = record { registry = d.does.registry; counts = d.does.counts; pic = d.does.pic; ioapic = d.does.ioapic; follows = d.does.follows }; once = d.once }
 
-  each_reply : (list : List Pin) (answer : Reply) → Acks r (acknowledge_each routing shape list >> reply answer)
-  each_reply list answer = acks_then r (acknowledge_each routing shape list) (reply answer) (each_acks r shape list) (reply_acks answer)
+  each_reply : (list : List Pin) (answer : Reply) → Settles r (acknowledge_each routing shape list >> reply answer)
+  each_reply list answer = settles_then r (acknowledge_each routing shape list) (reply answer) (each_settles r shape list) (reply_acks answer)
 
-  vector_acks : (vector : Option ℕ) → Acks r (end_vector routing shape vector)
-  vector_acks None = acks_quietly r (done tt) (λ _. tt)
-  vector_acks (Some vector) = λ b ws is. each_acks r shape (pins_with (ioapic_of b.ioapic) vector) b ws is
+  vector_acks : (vector : Option ℕ) → Settles r (end_vector routing shape vector)
+  vector_acks None = settles_quietly r (done tt) (λ _. tt)
+  vector_acks (Some vector) = λ b ws is. each_settles r shape (pins_with (ioapic_of b.ioapic) vector) b ws is
 
-  end_acks : (n : ℕ) → Acks r (end_of_interrupt routing shape n)
+  end_acks : (n : ℕ) → Settles r (end_of_interrupt routing shape n)
   end_acks n = λ b ws is. by_apic _ b ws is
     where
-      by_apic : (apic : LocalApic) → Acks r (put (parts.Lapic n) (without_service apic (greatest_vector apic.isr)) (end_vector routing shape (greatest_vector apic.isr) >> reply (ended_reply (greatest_vector apic.isr))))
+      by_apic : (apic : LocalApic) → Settles r (put (parts.Lapic n) (without_service apic (greatest_vector apic.isr)) (end_vector routing shape (greatest_vector apic.isr) >> reply (ended_reply (greatest_vector apic.isr))))
       by_apic apic =
           let vector = greatest_vector apic.isr in
-          lapic_acks n (without_service apic vector) (end_vector routing shape vector >> reply (ended_reply vector)) (acks_then r (end_vector routing shape vector) (reply (ended_reply vector)) (vector_acks vector) (reply_acks (ended_reply vector)))
+          lapic_acks n (without_service apic vector) (end_vector routing shape vector >> reply (ended_reply vector)) (settles_then r (end_vector routing shape vector) (reply (ended_reply vector)) (vector_acks vector) (reply_acks (ended_reply vector)))
 
-  cycle_does : (made : Cycle) (answer : Reply) (b : Board) (ws : Wishes) → b.registry ≡ r → Does r b (run (cycle_made routing shape b.pic made answer) b ws)
+  cycle_does : (made : Cycle) (answer : Reply) (b : Board) (ws : Wishes) → b.registry ≡ r → Pays r b (run (cycle_made routing shape b.pic made answer) b ws)
   cycle_does made answer = pair_does made.after (acknowledge_each routing shape (cycle_pins made.pins) >> reply answer) (each_reply (cycle_pins made.pins) answer)
 
-  inta_acks : Acks r (inta routing shape)
+  inta_acks : Settles r (inta routing shape)
   inta_acks = λ b ws is. cycle_does (cycle (pair_of b.pic)) (Vector (cycle (pair_of b.pic)).vector) b ws is
 
-  give_acks : (n : ℕ) (apic : LocalApic) → Acks r (give n apic)
-  give_acks n apic = acks_quietly r (give n apic) (λ _. (tt, tt))
+  give_acks : (n : ℕ) (apic : LocalApic) → Settles r (give n apic)
+  give_acks n apic = settles_quietly r (give n apic) (λ _. (tt, tt))
 
-  pair_gives_acks : (n : ℕ) (apic : LocalApic) → Acks r (give_of_pair routing shape n apic)
+  pair_gives_acks : (n : ℕ) (apic : LocalApic) → Settles r (give_of_pair routing shape n apic)
   pair_gives_acks n apic = λ b ws is.
       does_if (has_output (pair_of b.pic)) (cycle_made routing shape b.pic (cycle (pair_of b.pic)) (Extint (cycle (pair_of b.pic)).vector)) (give n apic) b ws
       (cycle_does (cycle (pair_of b.pic)) (Extint (cycle (pair_of b.pic)).vector) b ws is) (give_acks n apic b ws is)
 
-  next_acks : (n : ℕ) → Acks r (next_interrupt routing shape n)
+  next_acks : (n : ℕ) → Settles r (next_interrupt routing shape n)
   next_acks n = λ b ws is. by_apic _ b ws is
     where
-      by_apic : (apic : LocalApic) → Acks r (if apic.nmi then take_nmi n apic else if hears_pair n apic then give_of_pair routing shape n apic else give n apic)
-      by_apic apic = acks_if r apic.nmi (take_nmi n apic) (if hears_pair n apic then give_of_pair routing shape n apic else give n apic) (acks_quietly r (take_nmi n apic) (λ _. (tt, tt)))
-          (acks_if r (hears_pair n apic) (give_of_pair routing shape n apic) (give n apic) (pair_gives_acks n apic) (give_acks n apic))
+      by_apic : (apic : LocalApic) → Settles r (if apic.nmi then take_nmi n apic else if hears_pair n apic then give_of_pair routing shape n apic else give n apic)
+      by_apic apic = settles_if r apic.nmi (take_nmi n apic) (if hears_pair n apic then give_of_pair routing shape n apic else give n apic) (settles_quietly r (take_nmi n apic) (λ _. (tt, tt)))
+          (settles_if r (hears_pair n apic) (give_of_pair routing shape n apic) (give n apic) (pair_gives_acks n apic) (give_acks n apic))
 
   -- ---- accesses
 
-  pair_write_acks : (port len value : ℕ) → Acks r (pair_write routing shape port len value)
+  pair_write_acks : (port len value : ℕ) → Settles r (pair_write routing shape port len value)
   pair_write_acks port len value = λ b ws is.
       let effect = pair_write_to (pair_of b.pic) port value in
-      does_bind r (λ _. reply Done) (if nat_eq len 1 then pair_written routing shape b.pic effect else done tt) b ws
+      pays_bind r (λ _. reply Done) (if nat_eq len 1 then pair_written routing shape b.pic effect else done tt) b ws
       (does_if (nat_eq len 1) (pair_written routing shape b.pic effect) (done tt) b ws
-      (pair_does effect.after (acknowledge_each routing shape (pic_pin effect.pin)) (each_acks r shape (pic_pin effect.pin)) b ws is) (acks_quietly r (done tt) (λ _. tt) b ws is))
+      (pair_does effect.after (acknowledge_each routing shape (pic_pin effect.pin)) (each_settles r shape (pic_pin effect.pin)) b ws is) (settles_quietly r (done tt) (λ _. tt) b ws is))
       (λ _. reply_acks Done)
 
-  pair_read_acks : (port len : ℕ) → Acks r (pair_read routing shape port len)
+  pair_read_acks : (port len : ℕ) → Settles r (pair_read routing shape port len)
   pair_read_acks port len = λ b ws is.
       let read = pair_read_from (pair_of b.pic) port in
       does_if (nat_eq len 1) (pair_gave routing shape b.pic read) (reply (Value 0)) b ws
       (pair_does read.after (acknowledge_each routing shape (pic_pin read.pin) >> reply (Value read.value)) (each_reply (pic_pin read.pin) (Value read.value)) b ws is) (reply_acks (Value 0) b ws is)
 
-  effects_acks : (n : ℕ) (effect : LapicEffect) → Acks r (store_effects routing shape n effect)
-  effects_acks n effects.Plain = acks_quietly r (done tt) (λ _. tt)
+  effects_acks : (n : ℕ) (effect : LapicEffect) → Settles r (store_effects routing shape n effect)
+  effects_acks n effects.Plain = settles_quietly r (done tt) (λ _. tt)
   effects_acks n (effects.Ended vector) = vector_acks vector
   effects_acks n (effects.Send message) =
-      acks_quietly r (send shape.cpus message.message (Some (n, message.to)) ipi >>= (λ _. done tt))
+      settles_quietly r (send shape.cpus message.message (Some (n, message.to)) ipi >>= (λ _. done tt))
       (λ w. minds_bind w (λ _. done tt) (send shape.cpus message.message (Some (n, message.to)) ipi) (send_minds w shape.cpus message.message (Some (n, message.to)) ipi) (λ _. tt))
 
-  lapic_store_acks : (n offset len value : ℕ) → Acks r (lapic_store routing shape n offset len value)
+  lapic_store_acks : (n offset len value : ℕ) → Settles r (lapic_store routing shape n offset len value)
   lapic_store_acks n offset len value = λ b ws is. by_apic _ b ws is
     where
-      by_apic : (apic : LocalApic) → Acks r ((if nat_eq len 4 then lapic_stored routing shape n (store_to apic offset value) (store_effect apic offset value) else done tt) >> reply Done)
+      by_apic : (apic : LocalApic) → Settles r ((if nat_eq len 4 then lapic_stored routing shape n (store_to apic offset value) (store_effect apic offset value) else done tt) >> reply Done)
       by_apic apic =
           let effect = store_effect apic offset value in
           let stored = lapic_stored routing shape n (store_to apic offset value) effect in
-          acks_then r (if nat_eq len 4 then stored else done tt) (reply Done)
-          (acks_if r (nat_eq len 4) stored (done tt) (lapic_acks n (store_to apic offset value) (store_effects routing shape n effect) (effects_acks n effect)) (acks_quietly r (done tt) (λ _. tt)))
+          settles_then r (if nat_eq len 4 then stored else done tt) (reply Done)
+          (settles_if r (nat_eq len 4) stored (done tt) (lapic_acks n (store_to apic offset value) (store_effects routing shape n effect) (effects_acks n effect)) (settles_quietly r (done tt) (λ _. tt)))
           (reply_acks Done)
 
   -- ---- every call
 
   -- a run acknowledges as it is to, or tells no acknowledge
   abbrev pub Minded : Plan (Unit {0}) → Type 0
-  Minded m = (b : Board) (ws : Wishes) → b.registry ≡ r → AreQuiet (run m b ws).log.events ⊎ Does r b (run m b ws)
+  Minded m = (b : Board) (ws : Wishes) → b.registry ≡ r → AreQuiet (run m b ws).log.events ⊎ Pays r b (run m b ws)
 
   quietly : (m : Plan (Unit {0})) → Quiet m → Minded m
   quietly m h = λ b ws is. inl (quiet_run m b ws h)
 
-  acking : (m : Plan (Unit {0})) → Acks r m → Minded m
+  acking : (m : Plan (Unit {0})) → Settles r m → Minded m
   acking m h = λ b ws is. inr (h b ws is)
 
   minded_if : (t : Bool) (m n : Plan (Unit {0})) → Minded m → Minded n → Minded (if t then m else n)

@@ -13,7 +13,7 @@ use Rattle.board_model.specs.Board.{Board}
 use Rattle.board_model.specs.Run.{Outcome}
 use Rattle.board_step.specs.Step.{would_publish, with_counts, outcome_of, Step}
 use Rattle.board_step.specs.History.{opening, Leads, next_board, board_after}
-use Rattle.board_step.specs.HistoryLaws.{Point, board_at, board_left, IsLegal, counters_told, ResamplesOnce}
+use Rattle.board_step.specs.HistoryLaws.{Point, board_at, board_left, IsLegal, counters_told, signals_told, signals_owed, ResamplesOnce}
 use Rattle.board_step.proofs.Following.{next_is}
 use Rattle.board_step.proofs.ResamplingPlans.{AreQuiet}
 use Rattle.board_step.proofs.ResamplingAcks.{Followed, Follows, Resamples}
@@ -31,8 +31,8 @@ followed_there r last (x ∷ before) after pin gsi follows = followed_there r la
 
 -- a call more changes no part
 counted_same : (publishes : Bool) (b : Board) (e : Entry) (gsi : ℕ) (after : List Event) (c : Board) → ResamplesOnce b e c gsi after → ResamplesOnce b e (with_counts publishes c) gsi after
-counted_same true b e gsi after c once = record { more = once.more; events = once.events; counts = once.counts; pic = once.pic; ioapic = once.ioapic }
-counted_same false b e gsi after c once = record { more = once.more; events = once.events; counts = once.counts; pic = once.pic; ioapic = once.ioapic }
+counted_same true b e gsi after c once = record { more = once.more; events = once.events; counts = once.counts; once = once.once; pic = once.pic; ioapic = once.ioapic }
+counted_same false b e gsi after c once = record { more = once.more; events = once.events; counts = once.counts; once = once.once; pic = once.pic; ioapic = once.ioapic }
 
 -- an acknowledge of a step resamples once
 pub step_resamples : (b : Board) (e : Entry) (c : Board) → Step b e c → (before after : List Event) (pin : Pin) (gsi : ℕ) → e.events ≡ before ++ Acked pin (Some gsi) ∷ after → has_resampler b.registry.irqfds gsi ≡ true → ResamplesOnce b e c gsi after
@@ -41,12 +41,13 @@ step_resamples b e c step before after pin gsi told on =
     let events : o.log.events ≡ before ++ Acked pin (Some gsi) ∷ after = step.told ∙ told in
     elim (call_minded b.registry b.shape e.caller e.call b step.wishes refl) [
       | inl quiet ↦ absurd (never_quiet before after pin (Some gsi) (subst (λ l. AreQuiet l) events quiet))
-      | inr does ↦
-          let once : Resamples b.registry o.board gsi after = followed_there b.registry o.board before after pin (Some gsi) (subst (λ l. Follows b.registry o.board l) events does.follows) on in
+      | inr pays ↦
+          let once : Resamples b.registry o.board gsi after = followed_there b.registry o.board before after pin (Some gsi) (subst (λ l. Follows b.registry o.board l) events pays.does.follows) on in
           subst (λ (d : Board). ResamplesOnce b e d gsi after) step.leads (counted_same (would_publish b e.call) b e gsi after o.board (record {
             more = once.more;
             events = once.events;
-            counts = does.counts ∙ ap (λ l. signalled_all b.counters (counters_told l)) step.told;
+            counts = pays.does.counts ∙ ap (λ l. signalled_all b.counters (counters_told l)) step.told;
+            once = subst (λ l. signals_told l ≡ signals_owed b.registry l) step.told pays.once;
             pic = once.pic;
             ioapic = once.ioapic;
           }))
