@@ -1,0 +1,10 @@
+//! The laws of legal histories: functions with no body, the contract of each being a law.
+
+ghost use Rattle.board_step.specs.HistoryLaws.{EachAcknowledgeResamplesOnce};
+
+/// A law: in a legal history each acknowledge of a GSI with resamplers signals each of them once, in order, and afterwards
+/// no resampler holds a pin of the GSI.
+#[tactic(auto, using(crate::proofs::ResamplingSteps::resamples_once))]
+pub fn each_acknowledge_resamples_once()
+    ensures { EachAcknowledgeResamplesOnce }
+{}
