@@ -1,14 +1,30 @@
-//! The laws of histories: functions with no body, the contract of each being a law.
+//! The laws of legal histories: functions with no body, the contract of each being a law.
 
-ghost use Rattle.board_step.specs.HistoryLaws.{TicksAreConserved, TicksInjectFree, OtherInjectionsFollowAcknowledges, NoSignalOfDeassignedTrigger};
+ghost use Rattle.board_step.specs.HistoryLaws.{EachAcknowledgeResamplesOnce, NoSignalOfDeassignedTrigger, TicksAreConserved, TicksInjectFree, OtherInjectionsFollowAcknowledges};
+
+/// A law: in a legal history each acknowledge of a GSI with resamplers signals each of them once, in order, and afterwards
+/// no resampler holds a pin of the GSI.
+#[tactic(auto, using(crate::proofs::ResamplingSteps::resamples_once))]
+pub fn each_acknowledge_resamples_once()
+    ensures { EachAcknowledgeResamplesOnce }
+{}
+
+/// A law: from the end of an irqfd to the next of its trigger, a write of its counter, or a guest write that rings it, signals
+/// nothing: it tells no more than that it rang, and changes no more than the count.
+#[tactic(auto, using(crate::proofs::DeassignedSignals::no_signal_of_deassigned_trigger))]
+pub fn no_signal_of_deassigned_trigger()
+    ensures { NoSignalOfDeassignedTrigger }
+{}
 
 /// A law: from the start of reinjection on, and until the mode is set again, the ticks that fell are those that are pending
 /// and those that acknowledges took.
+#[tactic(auto, using(crate::proofs::ConservingTicks::ticks_are_conserved))]
 pub fn ticks_are_conserved()
     ensures { TicksAreConserved }
 {}
 
 /// A law: under reinjection a tick that falls is injected only where the state was free.
+#[tactic(auto, using(crate::proofs::ConservingTicks::ticks_inject_free))]
 pub fn ticks_inject_free()
     ensures { TicksInjectFree }
 {}
@@ -17,10 +33,4 @@ pub fn ticks_inject_free()
 /// acknowledge of the tick's GSI.
 pub fn other_injections_follow_acknowledges()
     ensures { OtherInjectionsFollowAcknowledges }
-{}
-
-/// A law: from the end of an irqfd to the next of its trigger, a write of its counter, or a guest write that rings it, signals
-/// nothing: it tells no more than that it rang, and changes no more than the count.
-pub fn no_signal_of_deassigned_trigger()
-    ensures { NoSignalOfDeassignedTrigger }
 {}

@@ -12,8 +12,8 @@ mod sound;
 mod typed;
 
 pub use histories::{
-    no_signal_of_deassigned_trigger, other_injections_follow_acknowledges, ticks_are_conserved,
-    ticks_inject_free,
+    each_acknowledge_resamples_once, no_signal_of_deassigned_trigger,
+    other_injections_follow_acknowledges, ticks_are_conserved, ticks_inject_free,
 };
 pub use laws::{
     always_answers, answers_once, board_after_is_reached, calls_steadily, leads_to_one,
