@@ -1,11 +1,7 @@
--- Each call but Ack loses no request, and Ack takes that one which its reply tells.
-use Rattle.std.proofs.Common.{◌≡◌, ℕ, ◌-◌, Bool, true, false, not, ◌&&◌, All, nat_eq, nat_lt, if◌then◌else◌, ◌⊎◌, inl, inr, List, [], ◌∷◌, ◌++◌, is_some, refl, sym, ap, ◌∙◌, arith, Some, None}
+-- Each call but Ack loses no request.
+use Rattle.std.proofs.Common.{◌≡◌, ℕ, ◌-◌, Bool, true, false, nat_eq, nat_lt, if◌then◌else◌, List, [], ◌∷◌, ◌++◌, is_some, refl, ◌∙◌, arith, Some, None}
 use Rattle.std.specs.Prelude.{slice_index}
 use Rattle.std.specs.declared.option.Option.{Option}
-use Rattle.std.specs.FinSet as set
-use Rattle.std.specs.FinSet.{contains-remove}
-use Rattle.std.specs.Cmp.{nat_cmp_total, unsigned_tied}
-use Rattle.std.proofs.lemmas.List.Elements.{All-nil}
 use Rattle.irq_bits.specs.Members.{greatest_vector}
 use Rattle.irq_base.specs.Refusals.{Reason, first_of}
 use Rattle.irq_base.specs.declared.call.Call.{Call}
@@ -20,18 +16,17 @@ use Rattle.irq_base.specs.declared.message.Source.{Source}
 use Rattle.irq_base.specs.declared.message.Targets.{Targets}
 use Rattle.irq_base.specs.declared.refusal.Refusal.{Refusal}
 use Rattle.irq_base.specs.declared.reply.Reply.{Reply}
-use Rattle.irq_base.specs.declared.reply.Reply.TheVariants.{Done, Removed, Value, Exit, Vector, Extint, Nmi}
+use Rattle.irq_base.specs.declared.reply.Reply.TheVariants.{Done, Removed, Value, Exit, Vector}
 use Rattle.irq_base.specs.declared.shape.Part.TheVariants as parts
 use Rattle.irq_base.specs.declared.shape.Part.TheVariants.{Lapic}
 use Rattle.irq_base.specs.declared.shape.Shape.{Shape}
-use Rattle.pic_8259a.specs.Pair.{is_port, write_to as pair_write_to, read_from as pair_read_from, has_output, Cycle, cycle}
+use Rattle.pic_8259a.specs.Pair.{is_port, write_to as pair_write_to, read_from as pair_read_from, Cycle, cycle}
 use Rattle.ioapic_82093aa.specs.Pins.{write_to, resend_of}
 use Rattle.lapic.specs.declared.outcome.Effect.{Effect as LapicEffect}
 use Rattle.lapic.specs.declared.outcome.Effect.TheVariants as effects
 use Rattle.lapic.specs.Registers.{LocalApic, register_at}
-use Rattle.lapic.specs.Messages.{is_nmi}
 use Rattle.lapic.specs.Offsets.{stored_at, store_to, store_effect}
-use Rattle.lapic.specs.Priority.{giveable_of, given, without_service}
+use Rattle.lapic.specs.Priority.{without_service}
 use Rattle.msi_decode.specs.Messages.{message_in}
 use Rattle.route_table.specs.Rows.{table_of}
 use Rattle.event_counter.specs.Counters.{written, taken}
@@ -45,22 +40,22 @@ use Rattle.ack_notifiers.specs.Rows as watches
 use Rattle.board_model.specs.declared.trigger.TriggerWord.{TriggerWord}
 use Rattle.board_model.specs.Registry.{RegistryPart}
 use Rattle.board_model.specs.Routing.{Routing}
-use Rattle.board_model.specs.Board.{Board, part_of, with_part}
+use Rattle.board_model.specs.Board.{part_of, with_part}
 use Rattle.board_model.specs.Chips.{PicPart, pair_of, with_pair, ioapic_of, with_ioapic}
 use Rattle.board_model.specs.Statuses.{TargetAnswer}
 use Rattle.board_model.specs.Plan.{About, injected, ipi, the_reply, Plan, done, set as put_part, reply, ◌>>=◌, ◌>>◌}
-use Rattle.board_model.specs.Run.{Sending, Wishes, run}
+use Rattle.board_model.specs.Run.{run}
 use Rattle.board_raise.specs.Send.{send}
 use Rattle.board_raise.specs.Signal.{raise, inject}
 use Rattle.board_ack.specs.Acknowledge.{acknowledge_each}
 use Rattle.board_step.specs.Refusals.{write_reasons, assign_reasons, attach_reasons, detach_reasons, watch_reasons, unwatch_reasons, is_ioapic_address, is_lapic_address}
 use Rattle.board_step.specs.Registrations.{unless_refused, unless_one_of, line_set, source_of, trigger_written, count_written, write, take, inject_count, assigned, assign, was_last_resampler, release, deassigned, kept_holds, reroute}
 use Rattle.board_step.specs.Ticks.{tick_or_hold, tick, tick_mode}
-use Rattle.board_step.specs.Processors.{pins_with, end_vector, ended_reply, end_of_interrupt, pic_pin, cycle_pins, cycle_made, inta, given_reply, give, hears_pair, give_of_pair, take_nmi, next_interrupt}
+use Rattle.board_step.specs.Processors.{pins_with, end_vector, ended_reply, end_of_interrupt, pic_pin, cycle_pins, cycle_made, inta}
 use Rattle.board_step.specs.Accesses.{pair_written, pair_write, pair_gave, pair_read, resend_written, ioapic_written, ioapic_store, ioapic_load, store_effects, lapic_stored, lapic_store, lapic_load, ring_counter, rung, ring, port_out, port_in, store, load}
 use Rattle.board_step.specs.Calls.{io_row, plan_in_range}
-use Rattle.board_step.specs.HistoryLaws.{sendings_of, takes_by, is_ack}
-use Rattle.board_step.proofs.PendingPlans.{has, same_requests, at, Fine, after_put, put_fine, IsMade, Good, Safe, safe_end, safe_put, put_then, safe_bind, safe_then, safe_if}
+use Rattle.board_step.specs.HistoryLaws.{sendings_of, is_ack}
+use Rattle.board_step.proofs.PendingPlans.{same_requests, put_fine, Good, Safe, safe_end, safe_put, put_then, safe_bind, safe_then, safe_if}
 use Rattle.board_step.proofs.PendingSends.{send_safe}
 use Rattle.board_step.proofs.PendingSignals.{raise_safe, let_go_safe, lower_safe, inject_safe, resend_safe, inject_tick_safe, acks_safe}
 
@@ -86,30 +81,6 @@ store_irr a offset value = elim (register_at offset) as (λ o. (stored_at a o va
 
 store_nmi : (a : LocalApic) (offset value : ℕ) → (store_to a offset value).nmi ≡ a.nmi
 store_nmi a offset value = elim (register_at offset) as (λ o. (stored_at a o value).nmi ≡ a.nmi) [ None ↦ refl | Some register ↦ grind (arith, service_nmi) ]
-
-given_number : (a : LocalApic) (vector : Option ℕ) → (given a vector).number ≡ a.number
-given_number a None = refl
-given_number a (Some vector) = refl
-
--- a request is there still, or the reply takes it
-abbrev IsLeft : LocalApic → Reply → Message → Type 0
-IsLeft a r message = (has a message ≡ true) ⊎ (takes_by message r ≡ true)
-
-given_leaves : (a : LocalApic) (vector : Option ℕ) (message : Message) → has a message ≡ true → IsLeft (given a vector) (given_reply vector) message
-given_leaves a None message = λ h. inl h
-given_leaves a (Some vector) message = elim (is_nmi message.mode) as (λ t. (if t then a.nmi else set.contains a.irr message.vector) ≡ true → ((if t then a.nmi else set.contains (set.remove a.irr vector) message.vector) ≡ true) ⊎ ((not t && nat_eq vector message.vector) ≡ true)) [
-  | true ↦ λ h. inl h
-  | false ↦ λ h. from (nat_eq vector message.vector) refl h
-]
-  where
-    from : (t : Bool) → nat_eq vector message.vector ≡ t → set.contains a.irr message.vector ≡ true → (set.contains (set.remove a.irr vector) message.vector ≡ true) ⊎ (nat_eq vector message.vector ≡ true)
-    from true is h = inr is
-    from false other h =
-        let flipped : nat_eq message.vector vector ≡ false = grind (other, arith) in
-        inl (contains-remove nat_cmp_total a.irr vector message.vector ∙ ap (λ b. not b && set.contains a.irr message.vector) (unsigned_tied message.vector vector ∙ flipped) ∙ h)
-
-nmi_leaves : (a : LocalApic) (message : Message) → has a message ≡ true → IsLeft (record a { nmi = false }) Nmi message
-nmi_leaves a message = elim (is_nmi message.mode) as (λ t. (if t then a.nmi else set.contains a.irr message.vector) ≡ true → ((if t then false else set.contains a.irr message.vector) ≡ true) ⊎ (t ≡ true)) [ true ↦ λ h. inr refl | false ↦ λ h. inl h ]
 
 module _ (routing : Routing) (shape : Shape) where
   abbrev cpus : ℕ
@@ -206,7 +177,7 @@ module _ (routing : Routing) (shape : Shape) where
       put_then cpus b ws n after rest fine number (same_requests apic after (service_irr apic vector) (service_nmi apic vector))
       (safe_then cpus (end_vector routing shape vector) (reply (ended_reply vector)) (end_vector_safe vector) (safe_end cpus) (with_part b (Lapic n) after) ws (put_fine cpus b n after fine number))
 
-  cycle_safe : (pic : PicPart) (made : Cycle) (answer : Reply) → Safe cpus (cycle_made routing shape pic made answer)
+  pub cycle_safe : (pic : PicPart) (made : Cycle) (answer : Reply) → Safe cpus (cycle_made routing shape pic made answer)
   cycle_safe pic made answer = safe_put cpus parts.Pic (with_pair pic made.after) (acknowledge_each routing shape (cycle_pins made.pins) >> reply answer) refl
       (safe_then cpus (acknowledge_each routing shape (cycle_pins made.pins)) (reply answer) (acks_safe routing shape (cycle_pins made.pins)) (safe_end cpus))
 
@@ -323,54 +294,3 @@ module _ (routing : Routing) (shape : Shape) where
   in_range_safe n calls.Ack other = cc
   in_range_safe n calls.Inta other = inta_safe
   in_range_safe n calls.Eoi other = eoi_safe n
-
-  -- ---- Ack
-
-  -- local APICs before and after a run with these sendings and answers: a request is lost only where processor n takes it by
-  -- each reply that is the one answer
-  pub record Taking (n : ℕ) (before after : List LocalApic) (made : List (Board × Sending)) (answers : List Reply) : Type 0 where
-    pub stands : Fine cpus after
-    pub keeps : (k : ℕ) (message : Message) → has (at before k) message ≡ true → (has (at after k) message ≡ true) ⊎ ((n ≡ k) × ((r : Reply) → answers ≡ r ∷ [] → takes_by message r ≡ true))
-    pub sent : All (λ (x : Board × Sending). IsMade cpus after x.0 x.1) made
-
-  -- the same of the run of a plan on this board
-  abbrev pub TakingRun : ℕ → Plan (Unit {0}) → Board → Wishes → Type 0
-  TakingRun n m b ws = Taking n b.lapics (run m b ws).board.lapics (sendings_of m b ws) (run m b ws).log.answers
-
-  pub takes_none : (n : ℕ) (before after : List LocalApic) (made : List (Board × Sending)) (answers : List Reply) → Good cpus before after made → Taking n before after made answers
-  takes_none n before after made answers g = record { stands = g.stands; keeps = λ k message h. inl (g.keeps k message h); sent = g.sent }
-
-  put_taking : (n : ℕ) (b : Board) (v : LocalApic) (r : Reply) → Fine cpus b.lapics → v.number ≡ n → ((message : Message) → has (part_of b (Lapic n)) message ≡ true → IsLeft v r message) → Taking n b.lapics (with_part b (Lapic n) v).lapics [] (r ∷ [])
-  put_taking n b v r fine number leaves = record {
-    stands = put_fine cpus b n v fine number;
-    keeps = after_put (λ k a. (message : Message) → has (part_of b (Lapic k)) message ≡ true → (has a message ≡ true) ⊎ ((n ≡ k) × ((q : Reply) → r ∷ [] ≡ q ∷ [] → takes_by message q ≡ true))) b n v
-        (λ message h. told message (leaves message h)) (λ k message h. inl h);
-    sent = All-nil (λ (x : Board × Sending). IsMade cpus (with_part b (Lapic n) v).lapics x.0 x.1);
-  }
-    where
-      same : (q : Reply) → r ∷ [] ≡ q ∷ [] → r ≡ q
-      same q e = cc
-
-      told : (message : Message) → IsLeft v r message → (has v message ≡ true) ⊎ ((n ≡ n) × ((q : Reply) → r ∷ [] ≡ q ∷ [] → takes_by message q ≡ true))
-      told message (inl h) = inl h
-      told message (inr t) = inr (refl, λ q e. ap (takes_by message) (sym (same q e)) ∙ t)
-
-  give_taking : (n : ℕ) (b : Board) (ws : Wishes) → Fine cpus b.lapics → TakingRun n (give n (part_of b (Lapic n))) b ws
-  give_taking n b ws fine =
-      let apic = part_of b (Lapic n) in
-      put_taking n b (given apic (giveable_of apic)) (given_reply (giveable_of apic)) fine (given_number apic (giveable_of apic) ∙ fine.numbers n) (given_leaves apic (giveable_of apic))
-
-  pub next_taking : (n : ℕ) (b : Board) (ws : Wishes) → Fine cpus b.lapics → TakingRun n (next_interrupt routing shape n) b ws
-  next_taking n b ws fine =
-      let apic = part_of b (Lapic n) in
-      let made = cycle_made routing shape b.pic (cycle (pair_of b.pic)) (Extint (cycle (pair_of b.pic)).vector) in
-      elim apic.nmi as (λ t. TakingRun n (if t then take_nmi n apic else if hears_pair n apic then give_of_pair routing shape n apic else give n apic) b ws) [
-        | true ↦ put_taking n b (record apic { nmi = false }) Nmi fine (fine.numbers n) (nmi_leaves apic)
-        | false ↦ elim (hears_pair n apic) as (λ t. TakingRun n (if t then give_of_pair routing shape n apic else give n apic) b ws) [
-          | true ↦ elim (has_output (pair_of b.pic)) as (λ t. TakingRun n (if t then made else give n apic) b ws) [
-            | true ↦ takes_none n b.lapics (run made b ws).board.lapics (sendings_of made b ws) (run made b ws).log.answers (cycle_safe b.pic (cycle (pair_of b.pic)) (Extint (cycle (pair_of b.pic)).vector) b ws fine)
-            | false ↦ give_taking n b ws fine
-          ]
-          | false ↦ give_taking n b ws fine
-        ]
-      ]

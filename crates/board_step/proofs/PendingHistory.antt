@@ -13,8 +13,8 @@ use Rattle.irq_base.specs.declared.reply.Reply.{Reply}
 use Rattle.irq_base.specs.declared.shape.Shape.{Shape}
 use Rattle.lapic.specs.Registers.{LocalApic, power_on}
 use Rattle.board_model.specs.Board.{Board}
-use Rattle.board_model.specs.Routing.{routing_of_registry}
-use Rattle.board_model.specs.Run.{Sending, Wishes, run}
+use Rattle.board_model.specs.Routing.{Routing, routing_of_registry}
+use Rattle.board_model.specs.Run.{Sending}
 use Rattle.board_model.specs.Following.{shown_wishes}
 use Rattle.board_model.proofs.Followed.{shown_followed}
 use Rattle.board_model.proofs.Staying.{frame_stays}
@@ -29,8 +29,9 @@ use Rattle.board_step.specs.HistoryLaws.{board_at, board_left, sendings_of, take
 use Rattle.board_step.proofs.CallManner.{replies_in, writes_in, refuses_in, call_keeps, or_true}
 use Rattle.board_step.proofs.Following.{calls_steadily, next_is}
 use Rattle.board_step.proofs.Shown.{wishes_replied, all_shown}
-use Rattle.board_step.proofs.PendingPlans.{has, at, Fine, IsMade, Good}
-use Rattle.board_step.proofs.PendingCalls.{unless_safe, in_range_safe, Taking, TakingRun, next_taking}
+use Rattle.board_step.proofs.PendingPlans.{or_later, has, at, Fine, IsMade, Good}
+use Rattle.board_step.proofs.PendingCalls.{unless_safe, in_range_safe}
+use Rattle.board_step.proofs.PendingTaking.{Taking, TakingRun, next_taking}
 
 -- ---- a board at power-on
 
@@ -96,27 +97,37 @@ is_ack_is : (call : Call) → is_ack call ≡ true → call ≡ calls.Ack
 is_ack_is calls.Ack h = refl
 is_ack_is _ h = absurd (true≢false (sym h))
 
--- a run of a call loses no request, or it is an Ack and takes what it answers
-call_takes : (b : Board) (ws : Wishes) (caller : Caller) (call : Call) → Fine b.shape.cpus b.lapics
-    → Good b.shape.cpus b.lapics (run (plan_on b caller call) b ws).board.lapics (sendings_of (plan_on b caller call) b ws)
-    ⊎ ((call ≡ calls.Ack) × TakingRun (routing_of_registry b.registry b.shape.tick) b.shape (number_of caller) (plan_on b caller call) b ws)
-call_takes b ws caller call fine = of_ack (is_ack call) refl
+-- the sendings of an entry, and the board after its plan
+abbrev made_by : Board → Entry → List (Board × Sending)
+made_by b e = sendings_of (plan_on b e.caller e.call) b (wishes_shown e)
+
+abbrev after_plan : Board → Entry → Board
+after_plan b e = (outcome_of b e (wishes_shown e)).board
+
+-- an entry that leaves these local APICs loses no request, or it is an Ack and takes what it answers
+abbrev LosesNone : Board → Entry → List LocalApic → Type 0
+LosesNone b e apics =
+    Good b.shape.cpus b.lapics apics (made_by b e)
+    ⊎ ((e.call ≡ calls.Ack) × Taking b.shape.cpus (number_of e.caller) b.lapics apics (made_by b e) (outcome_of b e (wishes_shown e)).log.answers)
+
+loses_none : (b : Board) (e : Entry) → Fine b.shape.cpus b.lapics → LosesNone b e (after_plan b e).lapics
+loses_none b e fine = of_ack (is_ack e.call) refl
   where
-    of_ack : (t : Bool) → is_ack call ≡ t
-        → Good b.shape.cpus b.lapics (run (plan_on b caller call) b ws).board.lapics (sendings_of (plan_on b caller call) b ws)
-        ⊎ ((call ≡ calls.Ack) × TakingRun (routing_of_registry b.registry b.shape.tick) b.shape (number_of caller) (plan_on b caller call) b ws)
-    of_ack false other = inl (
-        let routing = routing_of_registry b.registry b.shape.tick in
-        unless_safe routing b.shape (range_reasons b.shape call) (plan_in_range routing b.shape (number_of caller) call) (in_range_safe routing b.shape (number_of caller) call other) b ws fine)
-    of_ack true is = let ack : call ≡ calls.Ack = is_ack_is call is in
-        inr (ack, subst (λ (c : Call). TakingRun (routing_of_registry b.registry b.shape.tick) b.shape (number_of caller) (plan_on b caller c) b ws) (sym ack) (next_taking (routing_of_registry b.registry b.shape.tick) b.shape (number_of caller) b ws fine))
+    routing : Routing
+    routing = routing_of_registry b.registry b.shape.tick
+
+    of_ack : (t : Bool) → is_ack e.call ≡ t → LosesNone b e (after_plan b e).lapics
+    of_ack false other = inl (unless_safe routing b.shape (range_reasons b.shape e.call) (plan_in_range routing b.shape (number_of e.caller) e.call) (in_range_safe routing b.shape (number_of e.caller) e.call other) b (wishes_shown e) fine)
+    of_ack true is =
+        let ack : e.call ≡ calls.Ack = is_ack_is e.call is in
+        inr (ack, subst (λ (c : Call). TakingRun b.shape.cpus (number_of e.caller) (plan_on b e.caller c) b (wishes_shown e)) (sym ack) (next_taking routing b.shape (number_of e.caller) b (wishes_shown e) fine))
 
 -- an entry leaves each request or takes it, and each of its sendings leaves a request at each processor that it reached
 record Passes (shape : Shape) (b : Board) (e : Entry) : Type 0 where
   same : (next_board b e).shape ≡ shape
   fine : Fine shape.cpus (next_board b e).lapics
   keeps : (n : ℕ) (message : Message) → has_request_on b message n ≡ true → (has_request_on (next_board b e) message n ≡ true) ⊎ (takes n message e ≡ true)
-  sent : All (λ (x : Board × Sending). IsMade shape.cpus (next_board b e).lapics x.0 x.1) (sendings_of (plan_on b e.caller e.call) b (wishes_shown e))
+  sent : All (λ (x : Board × Sending). IsMade shape.cpus (next_board b e).lapics x.0 x.1) (made_by b e)
 
 counted_lapics : (t : Bool) (o : Board) → (with_counts t o).lapics ≡ o.lapics
 counted_lapics true o = refl
@@ -136,34 +147,21 @@ asks_ack (Device d) shape n allowed is = absurd (true≢false (sym (never (nat_l
 asks_ack (Cpu m) shape n allowed is = grind (is, arith)
 
 passes_own : (b : Board) (e : Entry) (c : Board) → Fine b.shape.cpus b.lapics → Step b e c → Passes b.shape b e
-passes_own b e c fine step = from (call_takes b (wishes_shown e) e.caller e.call fine)
+passes_own b e c fine step = from (subst (LosesNone b e) (sym (counted_lapics (would_publish b e.call) (after_plan b e))) (loses_none b e fine))
   where
-    plan_board : Board
-    plan_board = (outcome_of b e (wishes_shown e)).board
-
-    same_lapics : (next_board b e).lapics ≡ plan_board.lapics
-    same_lapics = counted_lapics (would_publish b e.call) plan_board
-
     same_shape : (next_board b e).shape ≡ b.shape
-    same_shape = counted_shape (would_publish b e.call) plan_board ∙ (frame_stays (plan_on b e.caller e.call) b (wishes_shown e)).shape
+    same_shape = counted_shape (would_publish b e.call) (after_plan b e) ∙ (frame_stays (plan_on b e.caller e.call) b (wishes_shown e)).shape
 
-    of_taking : (n : ℕ) (taker : (k : ℕ) (message : Message) → n ≡ k → takes_by message e.reply ≡ true → takes k message e ≡ true) → Taking (routing_of_registry b.registry b.shape.tick) b.shape n b.lapics (next_board b e).lapics (sendings_of (plan_on b e.caller e.call) b (wishes_shown e)) (outcome_of b e (wishes_shown e)).log.answers → Passes b.shape b e
-    of_taking n taker g = record { same = same_shape; fine = g.stands; sent = g.sent; keeps = λ k message h. kept k message (g.keeps k message h) }
+    from : LosesNone b e (next_board b e).lapics → Passes b.shape b e
+    from (inl g) = record { same = same_shape; fine = g.stands; sent = g.sent; keeps = λ k message h. inl (g.keeps k message h) }
+    from (inr (ack, g)) = record { same = same_shape; fine = g.stands; sent = g.sent; keeps = λ k message h. kept k message (g.keeps k message h) }
       where
-        kept : (k : ℕ) (message : Message) → (has (at (next_board b e).lapics k) message ≡ true) ⊎ ((n ≡ k) × ((r : Reply) → (outcome_of b e (wishes_shown e)).log.answers ≡ r ∷ [] → takes_by message r ≡ true)) → (has_request_on (next_board b e) message k ≡ true) ⊎ (takes k message e ≡ true)
+        kept : (k : ℕ) (message : Message) → (has (at (next_board b e).lapics k) message ≡ true) ⊎ ((number_of e.caller ≡ k) × ((r : Reply) → (outcome_of b e (wishes_shown e)).log.answers ≡ r ∷ [] → takes_by message r ≡ true)) → (has_request_on (next_board b e) message k ≡ true) ⊎ (takes k message e ≡ true)
         kept k message (inl h) = inl h
-        kept k message (inr (is, told)) = inr (taker k message is (told e.reply (answers_shown b e c step)))
-
-    from : Good b.shape.cpus b.lapics plan_board.lapics (sendings_of (plan_on b e.caller e.call) b (wishes_shown e))
-        ⊎ ((e.call ≡ calls.Ack) × TakingRun (routing_of_registry b.registry b.shape.tick) b.shape (number_of e.caller) (plan_on b e.caller e.call) b (wishes_shown e)) → Passes b.shape b e
-    from (inl g) =
-        let h : Good b.shape.cpus b.lapics (next_board b e).lapics (sendings_of (plan_on b e.caller e.call) b (wishes_shown e)) = subst (λ (xs : List LocalApic). Good b.shape.cpus b.lapics xs (sendings_of (plan_on b e.caller e.call) b (wishes_shown e))) (sym same_lapics) g in
-        record { same = same_shape; fine = h.stands; sent = h.sent; keeps = λ k message had. inl (h.keeps k message had) }
-    from (inr (ack, g)) = of_taking (number_of e.caller) (λ k message is taken.
-        ap (λ t. t && (is_processor k e.caller && takes_by message e.reply)) (ap is_ack ack)
-        ∙ ap (λ t. t && takes_by message e.reply) (asks_ack e.caller b.shape k (ap (λ x. is_allowed e.caller x b.shape) (sym ack) ∙ step.allowed) is)
-        ∙ taken)
-        (subst (λ (xs : List LocalApic). Taking (routing_of_registry b.registry b.shape.tick) b.shape (number_of e.caller) b.lapics xs (sendings_of (plan_on b e.caller e.call) b (wishes_shown e)) (outcome_of b e (wishes_shown e)).log.answers) (sym same_lapics) g)
+        kept k message (inr (is, told)) = inr (
+            ap (λ t. t && (is_processor k e.caller && takes_by message e.reply)) (ap is_ack ack)
+            ∙ ap (λ t. t && takes_by message e.reply) (asks_ack e.caller b.shape k (ap (λ x. is_allowed e.caller x b.shape) (sym ack) ∙ step.allowed) is)
+            ∙ told e.reply (answers_shown b e c step))
 
 -- a board of this shape with all its local APICs
 record Stands (shape : Shape) (b : Board) : Type 0 where
@@ -184,10 +182,6 @@ parted shape b [] ys c stands leads = (stands, leads)
 parted shape b (e ∷ xs) ys c stands (next, step, later) =
     let p = passes shape b e next stands step in
     parted shape (next_board b e) xs ys c (record { same = p.same; fine = p.fine }) (leads_on b e next (xs ++ ys) c step later)
-
-or_later : (a b : Bool) → b ≡ true → (a || b) ≡ true
-or_later true b h = refl
-or_later false b h = h
 
 stays : (shape : Shape) (b : Board) (es more : List Entry) (c : Board) → Stands shape b → Leads b (es ++ more) c → (n : ℕ) (message : Message) → has_request_on b message n ≡ true → IsPendingOrTaken b n message es
 stays shape b [] more c stands leads n message h = inl h

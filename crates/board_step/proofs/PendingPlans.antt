@@ -1,5 +1,5 @@
 -- Plans that lose no request, and whose sendings leave one at each processor that they reach.
-use Rattle.std.proofs.Common.{◌≡◌, ℕ, ◌≤◌, zero, suc, Bool, true, false, not, ◌||◌, All, nat_eq, nat_lt, if◌then◌else◌, ◌⊎◌, inl, inr, true≢false, List, [], ◌∷◌, ◌++◌, length, refl, sym, ap, subst, ◌∙◌, arith}
+use Rattle.std.proofs.Common.{◌≡◌, ℕ, ◌≤◌, zero, suc, Bool, true, false, not, ◌||◌, All, nat_eq, nat_lt, if◌then◌else◌, ◌⊎◌, inl, inr, true≢false, List, [], ◌∷◌, ◌++◌, map, length, refl, sym, ap, subst, ◌∙◌, arith}
 use Rattle.std.specs.Prelude.{slice_get, slice_set, unwrap_or}
 use Rattle.std.specs.FinSet as set
 use Rattle.std.proofs.lemmas.List.Elements.{All-nil, All-append}
@@ -43,7 +43,7 @@ accepted_number a m = elim (is_nmi m.mode) as (λ t. (if t then record a { nmi =
   ]
 ]
 
-or_later : (a b : Bool) → b ≡ true → (a || b) ≡ true
+pub or_later : (a b : Bool) → b ≡ true → (a || b) ≡ true
 or_later true b h = refl
 or_later false b h = h
 
@@ -105,6 +105,26 @@ after_put P b n v written each m = elim (nat_eq n m) as (λ t. nat_eq n m ≡ t 
     from : (part_of (with_part b (Lapic n) v) (Lapic n) ≡ v) ⊎ (part_of (with_part b (Lapic n) v) (Lapic n) ≡ part_of b (Lapic n)) → P n (part_of (with_part b (Lapic n) v) (Lapic n))
     from (inl e) = subst (P n) (sym e) written
     from (inr e) = subst (P n) (sym e) (each n)
+
+-- ---- the sendings of a run
+
+-- those of a plan and then another
+pub sendings-bind : {A B : Type 0} (f : A → Plan B) (m : Plan A) (b : Board) (ws : Wishes) → sendings_of (m >>= f) b ws ≡ sendings_of m b ws ++ sendings_of (f (run m b ws).value) (run m b ws).board (run m b ws).wishes
+sendings-bind f (done a) b ws = refl
+sendings-bind f (look p k) b ws = sendings-bind f (k (part_of b p)) b ws
+sendings-bind f (put p v rest) b ws = sendings-bind f rest (with_part b p v) ws
+sendings-bind f (tell x rest) b ws = sendings-bind f rest b ws
+sendings-bind f (answer x rest) b ws = sendings-bind f rest b ws
+sendings-bind f (choose m about g k) b ws = ap (λ l. (b, record { heading = m; sent = g (next_wish ws) }) ∷ l) (sendings-bind f (k (g (next_wish ws))) b (later_wishes ws))
+
+-- they are those that its log shows
+pub logged : {A : Type 0} (m : Plan A) (b : Board) (ws : Wishes) → map (λ (x : Board × Sending). x.1) (sendings_of m b ws) ≡ (run m b ws).log.sendings
+logged (done a) b ws = refl
+logged (look p k) b ws = logged (k (part_of b p)) b ws
+logged (put p v rest) b ws = logged rest (with_part b p v) ws
+logged (tell x rest) b ws = logged rest b ws
+logged (answer x rest) b ws = logged rest b ws
+logged (choose m about g k) b ws = ap (λ l. record { heading = m; sent = g (next_wish ws) } ∷ l) (logged (k (g (next_wish ws))) b (later_wishes ws))
 
 -- ---- a run
 
@@ -177,15 +197,6 @@ module _ (cpus : ℕ) where
   -- a local APIC that keeps its requests is written
   pub put_then : {A : Type 0} (b : Board) (ws : Wishes) (n : ℕ) (v : LocalApic) (rest : Plan A) → Fine cpus b.lapics → v.number ≡ n → KeepsRequests (part_of b (Lapic n)) v → GoodRun rest (with_part b (Lapic n) v) ws → GoodRun (put (Lapic n) v rest) b ws
   put_then b ws n v rest fine number keeps h = and_then b.lapics (with_part b (Lapic n) v).lapics (run rest (with_part b (Lapic n) v) ws).board.lapics [] (sendings_of rest (with_part b (Lapic n) v) ws) (put_good b n v fine number keeps) h
-
-  -- the sendings of a plan and then another
-  pub sendings-bind : {A B : Type 0} (f : A → Plan B) (m : Plan A) (b : Board) (ws : Wishes) → sendings_of (m >>= f) b ws ≡ sendings_of m b ws ++ sendings_of (f (run m b ws).value) (run m b ws).board (run m b ws).wishes
-  sendings-bind f (done a) b ws = refl
-  sendings-bind f (look p k) b ws = sendings-bind f (k (part_of b p)) b ws
-  sendings-bind f (put p v rest) b ws = sendings-bind f rest (with_part b p v) ws
-  sendings-bind f (tell x rest) b ws = sendings-bind f rest b ws
-  sendings-bind f (answer x rest) b ws = sendings-bind f rest b ws
-  sendings-bind f (choose m about g k) b ws = ap (λ l. (b, record { heading = m; sent = g (next_wish ws) }) ∷ l) (sendings-bind f (k (g (next_wish ws))) b (later_wishes ws))
 
   -- a run that is another one
   pub same_run : (before : List LocalApic) {xs ys : List LocalApic} {k l : List (Board × Sending)} → xs ≡ ys → k ≡ l → Good before ys l → Good before xs k

@@ -13,7 +13,7 @@ use Rattle.lapic.specs.Registers.{LocalApic}
 use Rattle.lapic.specs.Messages.{is_taken, accepted}
 use Rattle.board_model.specs.Board.{Board, part_of, with_part}
 use Rattle.board_model.specs.Statuses.{Sent, TargetAnswer, message_answer}
-use Rattle.board_model.specs.Plan.{About, injected, resent, ipi, the_reply, Plan, done, look, put, tell, answer, choose, ◌>>=◌, ◌>>◌}
+use Rattle.board_model.specs.Plan.{About, injected, resent, ipi, the_reply, Plan, done, put, ◌>>=◌, ◌>>◌}
 use Rattle.board_model.specs.Run.{Sending, Wishes, next_wish, later_wishes, run}
 use Rattle.board_model.specs.Following.{reached}
 use Rattle.board_model.proofs.Staying.{frame_stays}
@@ -21,19 +21,9 @@ use Rattle.board_raise.specs.Named.{Processor, is_addressed, does_hear, is_named
 use Rattle.board_raise.specs.Send.{show, ignore, numbers_below, only, reached_by, see_each, is_illegal, parted, accept_each, deliver, refuse_vector, send_to, send}
 use Rattle.board_raise.specs.Laws.{processors_on, named_on, IsSending}
 use Rattle.board_raise.proofs.Each.{Each, both_hold, each_passing, each_chosen, each_weaker, told_of}
-use Rattle.board_raise.proofs.SendExactly.{after_seen, of_reached, all_reached, wishes_reach_exactly}
+use Rattle.board_raise.proofs.SendExactly.{seen_each, after_seen, of_reached, all_reached, wishes_reach_exactly}
 use Rattle.board_step.specs.HistoryLaws.{sendings_of}
-use Rattle.board_step.proofs.PendingPlans.{has, KeepsRequests, accepted_number, accepted_keeps, accepted_has, at, Fine, after_put, put_fine, IsMade, quiet, GoodRun, Safe, put_then, same_run}
-
--- ---- the sendings of a run are those that its log shows
-
-pub logged : {A : Type 0} (m : Plan A) (b : Board) (ws : Wishes) → map (λ (x : Board × Sending). x.1) (sendings_of m b ws) ≡ (run m b ws).log.sendings
-logged (done a) b ws = refl
-logged (look p k) b ws = logged (k (part_of b p)) b ws
-logged (put p v rest) b ws = logged rest (with_part b p v) ws
-logged (tell x rest) b ws = logged rest b ws
-logged (answer x rest) b ws = logged rest b ws
-logged (choose m about g k) b ws = ap (λ l. record { heading = m; sent = g (next_wish ws) } ∷ l) (logged (k (g (next_wish ws))) b (later_wishes ws))
+use Rattle.board_step.proofs.PendingPlans.{logged, sendings-bind, has, KeepsRequests, accepted_number, accepted_keeps, accepted_has, at, Fine, after_put, put_fine, IsMade, quiet, GoodRun, Safe, put_then, same_run}
 
 first_of_one : {X : Type 0} (x y : X) → x ∷ [] ≡ y ∷ [] → x ≡ y
 first_of_one x y e = cc
@@ -85,6 +75,17 @@ unfolding Each
 as_seen b [] = tt
 as_seen b (n ∷ ns) = (refl, as_seen b ns)
 
+-- to look at processors sends nothing
+none_seen : (b : Board) (ns : List ℕ) (ws : Wishes) → sendings_of (see_each ns) b ws ≡ []
+none_seen b [] ws = refl
+none_seen b (n ∷ ns) ws = sendings-bind (λ rest. done (record { number = n; apic = part_of b (Lapic n) } ∷ rest)) (see_each ns) b ws ∙ ap (λ l. l ++ []) (none_seen b ns ws)
+
+seen_sendings : {A : Type 0} (f : List Processor → Plan A) (b : Board) (ns : List ℕ) (ws : Wishes) → sendings_of (see_each ns >>= f) b ws ≡ sendings_of (f (processors_on b ns)) b ws
+seen_sendings f b ns ws =
+    sendings-bind f (see_each ns) b ws
+    ∙ ap (λ l. l ++ sendings_of (f (run (see_each ns) b ws).value) (run (see_each ns) b ws).board (run (see_each ns) b ws).wishes) (none_seen b ns ws)
+    ∙ ap (λ o. sendings_of (f o.value) o.board o.wishes) (seen_each b ns ws)
+
 -- ---- a sending
 
 module _ (cpus : ℕ) where
@@ -126,19 +127,6 @@ module _ (cpus : ℕ) where
       | true ↦ none_made a ns (with_part c (Lapic n) (accepted (part_of b (Lapic n)) message)) ws
       | false ↦ none_made a ns c ws
     ]
-
-  -- to look at processors sends nothing
-  seen_sendings : {A : Type 0} (f : List Processor → Plan A) (b : Board) (ns : List ℕ) (ws : Wishes) → sendings_of (see_each ns >>= f) b ws ≡ sendings_of (f (processors_on b ns)) b ws
-  seen_sendings f b [] ws = refl
-  seen_sendings {A} f b (n ∷ ns) ws = reassociated (see_each ns) b ws ∙ seen_sendings (λ rest. f (record { number = n; apic = part_of b (Lapic n) } ∷ rest)) b ns ws
-    where
-      reassociated : (m : Plan (List Processor)) (c : Board) (us : Wishes) → sendings_of ((m >>= (λ rest. done (record { number = n; apic = part_of b (Lapic n) } ∷ rest))) >>= f) c us ≡ sendings_of (m >>= (λ rest. f (record { number = n; apic = part_of b (Lapic n) } ∷ rest))) c us
-      reassociated (done a) c us = refl
-      reassociated (look p k) c us = reassociated (k (part_of c p)) c us
-      reassociated (put p v rest) c us = reassociated rest (with_part c p v) us
-      reassociated (tell x rest) c us = reassociated rest c us
-      reassociated (answer x rest) c us = reassociated rest c us
-      reassociated (choose m about g k) c us = ap (λ l. (c, record { heading = m; sent = g (next_wish us) }) ∷ l) (reassociated (k (g (next_wish us))) c (later_wishes us))
 
   module _ (message : Message) (from : Option (ℕ × Shorthand)) (about : About) (b : Board) (ws : Wishes) (fine : Fine cpus b.lapics) where
     abbrev ns : List ℕ
