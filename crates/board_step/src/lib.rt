@@ -11,7 +11,7 @@ mod reach;
 mod sound;
 mod typed;
 
-pub use histories::each_acknowledge_resamples_once;
+pub use histories::{each_acknowledge_resamples_once, requests_stay_pending};
 pub use laws::{
     always_answers, answers_once, board_after_is_reached, calls_steadily, leads_to_one,
     refused_rightly, refuses_first, words_stay,
