@@ -55,15 +55,12 @@ use Rattle.board_step.specs.Processors.{pins_with, end_vector, ended_reply, end_
 use Rattle.board_step.specs.Accesses.{pair_written, pair_write, pair_gave, pair_read, resend_written, ioapic_written, ioapic_store, ioapic_load, store_effects, lapic_stored, lapic_store, lapic_load, ring_counter, rung, ring, port_out, port_in, store, load}
 use Rattle.board_step.specs.Calls.{io_row, plan_in_range}
 use Rattle.board_step.specs.HistoryLaws.{sendings_of, is_ack}
+use Rattle.board_step.proofs.SoundCalls.{service_number, store_number}
 use Rattle.board_step.proofs.PendingPlans.{same_requests, put_fine, Good, Safe, safe_end, safe_put, put_then, safe_bind, safe_then, safe_if}
 use Rattle.board_step.proofs.PendingSends.{send_safe}
 use Rattle.board_step.proofs.PendingSignals.{raise_safe, let_go_safe, lower_safe, inject_safe, resend_safe, inject_tick_safe, acks_safe}
 
 -- ---- what a local APIC keeps
-
-service_number : (a : LocalApic) (vector : Option ℕ) → (without_service a vector).number ≡ a.number
-service_number a None = refl
-service_number a (Some vector) = refl
 
 service_irr : (a : LocalApic) (vector : Option ℕ) → (without_service a vector).irr ≡ a.irr
 service_irr a None = refl
@@ -72,9 +69,6 @@ service_irr a (Some vector) = refl
 service_nmi : (a : LocalApic) (vector : Option ℕ) → (without_service a vector).nmi ≡ a.nmi
 service_nmi a None = refl
 service_nmi a (Some vector) = refl
-
-store_number : (a : LocalApic) (offset value : ℕ) → (store_to a offset value).number ≡ a.number
-store_number a offset value = elim (register_at offset) as (λ o. (stored_at a o value).number ≡ a.number) [ None ↦ refl | Some register ↦ grind (arith, service_number) ]
 
 store_irr : (a : LocalApic) (offset value : ℕ) → (store_to a offset value).irr ≡ a.irr
 store_irr a offset value = elim (register_at offset) as (λ o. (stored_at a o value).irr ≡ a.irr) [ None ↦ refl | Some register ↦ grind (arith, service_irr) ]

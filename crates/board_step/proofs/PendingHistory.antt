@@ -1,5 +1,5 @@
 -- Requests stay pending until they are taken, along every legal history.
-use Rattle.std.proofs.Common.{◌≡◌, ℕ, ◌+◌, zero, suc, Bool, true, false, All, not, ◌&&◌, ◌||◌, nat_lt, ◌⊎◌, inl, inr, true≢false, List, [], ◌∷◌, ◌++◌, map, length, refl, sym, ap, subst, ◌∙◌, arith, append-nil, length-append}
+use Rattle.std.proofs.Common.{◌≡◌, ℕ, ◌+◌, Bool, true, false, All, ◌&&◌, ◌||◌, nat_lt, ◌⊎◌, inl, inr, true≢false, List, [], ◌∷◌, ◌++◌, map, length, refl, sym, ap, subst, ◌∙◌, arith}
 use Rattle.std.specs.Prelude.{slice_get, unwrap_or}
 use Rattle.std.specs.List.{list_any}
 use Rattle.irq_base.specs.Callers.{is_allowed}
@@ -15,57 +15,22 @@ use Rattle.lapic.specs.Registers.{LocalApic, power_on}
 use Rattle.board_model.specs.Board.{Board}
 use Rattle.board_model.specs.Routing.{Routing, routing_of_registry}
 use Rattle.board_model.specs.Run.{Sending}
-use Rattle.board_model.specs.Following.{shown_wishes}
 use Rattle.board_model.proofs.Followed.{shown_followed}
 use Rattle.board_model.proofs.Staying.{frame_stays}
 use Rattle.board_raise.specs.Send.{numbers_below}
 use Rattle.board_raise.specs.Laws.{has_request_on}
-use Rattle.board_raise.proofs.Manner.{Manner, Keeps}
 use Rattle.board_step.specs.Refusals.{range_reasons}
 use Rattle.board_step.specs.Calls.{number_of, plan_in_range}
 use Rattle.board_step.specs.Step.{would_publish, plan_on, outcome_of, with_counts, Step}
-use Rattle.board_step.specs.History.{opening, Leads, wish_replied, wishes_told, wishes_shown, next_board, board_after}
+use Rattle.board_step.specs.History.{opening, Leads, wishes_shown, next_board, board_after}
 use Rattle.board_step.specs.HistoryLaws.{board_at, board_left, sendings_of, takes_by, is_processor, is_ack, takes, IsPendingOrTaken, SendingStands, RequestsStayPending}
-use Rattle.board_step.proofs.CallManner.{replies_in, writes_in, refuses_in, call_keeps, or_true}
-use Rattle.board_step.proofs.Following.{calls_steadily, next_is}
-use Rattle.board_step.proofs.Shown.{wishes_replied, all_shown}
+use Rattle.board_step.proofs.Following.{calls_steadily, wishes_are, next_is}
+use Rattle.board_step.proofs.SoundOpening.{number_at, apics_many, apics_numbered}
 use Rattle.board_step.proofs.PendingPlans.{or_later, has, at, Fine, IsMade, Good}
 use Rattle.board_step.proofs.PendingCalls.{unless_safe, in_range_safe}
 use Rattle.board_step.proofs.PendingTaking.{Taking, TakingRun, next_taking}
 
 -- ---- a board at power-on
-
--- local APICs whose numbers go up by one from a first
-abbrev Numbered : ℕ → List LocalApic → Type 0
-Numbered first [] = Unit {0}
-Numbered first (a ∷ more) = (a.number ≡ first) × Numbered (suc first) more
-
-one_more : (first : ℕ) (apics : List LocalApic) (a : LocalApic) → Numbered first apics → a.number ≡ first + length apics → Numbered first (apics ++ a ∷ [])
-one_more first [] a each e = (omega (arith, e), tt)
-one_more first (x ∷ xs) a each e = (each.0, one_more (suc first) xs a each.1 (omega (arith, e)))
-
-number_at : (first : ℕ) (apics : List LocalApic) (n : ℕ) (d : LocalApic) → Numbered first apics → d.number ≡ first + n → (unwrap_or (slice_get apics n) d).number ≡ first + n
-number_at first [] n d each e = e
-number_at first (x ∷ xs) zero d each e = omega (arith, each.0)
-number_at first (x ∷ xs) (suc n) d each e = let rest : (unwrap_or (slice_get xs n) d).number ≡ suc first + n = number_at (suc first) xs n d each.1 (omega (arith, e)) in omega (arith, rest)
-
-mapped : (ns : List ℕ) (n : ℕ) → map power_on (ns ++ n ∷ []) ≡ map power_on ns ++ power_on n ∷ []
-mapped [] n = refl
-mapped (k ∷ ks) n = ap (λ l. power_on k ∷ l) (mapped ks n)
-
-apics_many : (k : ℕ) → length (map power_on (numbers_below k)) ≡ k
-apics_many zero = refl
-apics_many (suc k) = ap length (mapped (numbers_below k) k) ∙ length-append (map power_on (numbers_below k)) (power_on k ∷ []) ∙ one (length (map power_on (numbers_below k))) (apics_many k)
-  where
-    one : (n : ℕ) → n ≡ k → n + 1 ≡ suc k
-    one n e = omega arith
-
-apics_numbered : (k : ℕ) → Numbered 0 (map power_on (numbers_below k))
-apics_numbered zero = tt
-apics_numbered (suc k) = subst (Numbered 0) (sym (mapped (numbers_below k) k)) (one_more 0 (map power_on (numbers_below k)) (power_on k) (apics_numbered k) (last (length (map power_on (numbers_below k))) (apics_many k)))
-  where
-    last : (n : ℕ) → n ≡ k → k ≡ 0 + n
-    last n e = omega arith
 
 opening_fine : (cpus : ℕ) → Fine cpus (map power_on (numbers_below cpus))
 opening_fine cpus = record {
@@ -75,23 +40,12 @@ opening_fine cpus = record {
 
 -- ---- one entry
 
--- the manner of a call that may do all it can
-abbrev free : Call → Manner
-free call = record { replies = replies_in call; writes = true; refuses = true }
-
-keeps_free : (b : Board) (caller : Caller) (call : Call) → Keeps (free call) (plan_on b caller call)
-keeps_free b caller call = call_keeps (free call) (routing_of_registry b.registry b.shape.tick) b.shape caller call refl (record { replies = refl; writes = or_true (not (writes_in call)); refuses = or_true (not (refuses_in call)) })
-
 -- under the wishes that an entry shows its call answers what the entry says
 answers_shown : (b : Board) (e : Entry) (c : Board) → Step b e c → (outcome_of b e (wishes_shown e)).log.answers ≡ e.reply ∷ []
 answers_shown b e c s =
-    let plan = plan_on b e.caller e.call in
-    let wishes : wishes_shown e ≡ shown_wishes (outcome_of b e s.wishes).log.sendings =
-    ap (λ l. wishes_told e.events ++ l) (sym (append-nil (wish_replied e.reply)))
-    ∙ ap (λ l. wishes_told l ++ wishes_replied (e.reply ∷ [])) (sym s.told)
-    ∙ ap (λ l. wishes_told (outcome_of b e s.wishes).log.events ++ wishes_replied l) (sym s.replied)
-    ∙ all_shown (free e.call) plan b s.wishes (keeps_free b e.caller e.call) in
-    ap (λ ws. (outcome_of b e ws).log.answers) wishes ∙ ap (λ l. l.answers) (shown_followed plan b s.wishes (calls_steadily b e.caller e.call)).log ∙ s.replied
+    ap (λ ws. (outcome_of b e ws).log.answers) (wishes_are b e c s)
+    ∙ ap (λ l. l.answers) (shown_followed (plan_on b e.caller e.call) b s.wishes (calls_steadily b e.caller e.call)).log
+    ∙ s.replied
 
 is_ack_is : (call : Call) → is_ack call ≡ true → call ≡ calls.Ack
 is_ack_is calls.Ack h = refl

@@ -34,15 +34,6 @@ KeepsRequests a c = (message : Message) → has a message ≡ true → has c mes
 pub same_requests : (a c : LocalApic) → c.irr ≡ a.irr → c.nmi ≡ a.nmi → KeepsRequests a c
 same_requests a c irr nmi message h = ap (λ t. if is_nmi message.mode then t else set.contains c.irr message.vector) nmi ∙ ap (λ (s : Numbers). if is_nmi message.mode then a.nmi else set.contains s message.vector) irr ∙ h
 
-pub accepted_number : (a : LocalApic) (m : Message) → (accepted a m).number ≡ a.number
-accepted_number a m = elim (is_nmi m.mode) as (λ t. (if t then record a { nmi = true } else if not (is_enabled a) then a else if nat_lt m.vector 16 then with_error a 6 else with_request a m).number ≡ a.number) [
-  | true ↦ refl
-  | false ↦ elim (is_enabled a) as (λ t. (if not t then a else if nat_lt m.vector 16 then with_error a 6 else with_request a m).number ≡ a.number) [
-    | true ↦ elim (nat_lt m.vector 16) as (λ t. (if t then with_error a 6 else with_request a m).number ≡ a.number) [ true ↦ refl | false ↦ refl ]
-    | false ↦ refl
-  ]
-]
-
 pub or_later : (a b : Bool) → b ≡ true → (a || b) ≡ true
 or_later true b h = refl
 or_later false b h = h

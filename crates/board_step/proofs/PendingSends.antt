@@ -23,7 +23,8 @@ use Rattle.board_raise.specs.Laws.{processors_on, named_on, IsSending}
 use Rattle.board_raise.proofs.Each.{Each, both_hold, each_passing, each_chosen, each_weaker, told_of}
 use Rattle.board_raise.proofs.SendExactly.{seen_each, after_seen, of_reached, all_reached, wishes_reach_exactly}
 use Rattle.board_step.specs.HistoryLaws.{sendings_of}
-use Rattle.board_step.proofs.PendingPlans.{logged, sendings-bind, has, KeepsRequests, accepted_number, accepted_keeps, accepted_has, at, Fine, after_put, put_fine, IsMade, quiet, GoodRun, Safe, put_then, same_run}
+use Rattle.board_step.proofs.SoundSends.{accepted_number}
+use Rattle.board_step.proofs.PendingPlans.{logged, sendings-bind, has, KeepsRequests, accepted_keeps, accepted_has, at, Fine, after_put, put_fine, IsMade, quiet, GoodRun, Safe, put_then, same_run}
 
 first_of_one : {X : Type 0} (x y : X) → x ∷ [] ≡ y ∷ [] → x ≡ y
 first_of_one x y e = cc

@@ -21,14 +21,11 @@ use Rattle.board_model.specs.Plan.{Plan}
 use Rattle.board_model.specs.Run.{Sending, Wishes, run}
 use Rattle.board_step.specs.Processors.{cycle_made, given_reply, give, hears_pair, give_of_pair, take_nmi, next_interrupt}
 use Rattle.board_step.specs.HistoryLaws.{sendings_of, takes_by}
+use Rattle.board_step.proofs.SoundCalls.{given_number}
 use Rattle.board_step.proofs.PendingPlans.{has, at, Fine, after_put, put_fine, IsMade, Good}
 use Rattle.board_step.proofs.PendingCalls.{cycle_safe}
 
 -- ---- of one local APIC
-
-given_number : (a : LocalApic) (vector : Option ℕ) → (given a vector).number ≡ a.number
-given_number a None = refl
-given_number a (Some vector) = refl
 
 -- a request is there still, or the reply takes it
 abbrev IsLeft : LocalApic → Reply → Message → Type 0
