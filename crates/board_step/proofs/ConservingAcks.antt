@@ -80,6 +80,10 @@ or_left : (a c : Bool) → a ≡ true → (a || c) ≡ true
 or_left true c h = refl
 or_left false c h = cc
 
+pub or_right : (a c : Bool) → c ≡ true → (a || c) ≡ true
+or_right true c h = refl
+or_right false c h = h
+
 module _ (tick : ℕ) (rings : Bool) where
   after_more : (may more : ℕ → Bool) (event : Event) → ((g : ℕ) → may g ≡ true → more g ≡ true) → (g : ℕ) → may_after tick may event g ≡ true → may_after tick more event g ≡ true
   after_more may more (Acked pin None) wider g h = wider g h

@@ -31,7 +31,7 @@ use Rattle.board_step.specs.HistoryLaws.{is_tick, ticks_in, acks_in, ticks_taken
 use Rattle.board_step.proofs.Following.{next_is}
 use Rattle.board_step.proofs.SoundRows.{or_neither}
 use Rattle.board_step.proofs.ConservingQuiet.{inject_quiet}
-use Rattle.board_step.proofs.ConservingAcks.{may_after, Following, acks_append, quiet_acks}
+use Rattle.board_step.proofs.ConservingAcks.{or_right, may_after, Following, acks_append, quiet_acks}
 use Rattle.board_step.proofs.ConservingCalls.{Lets, call_keeps, tick_keeps}
 
 -- ---- a tick that falls
@@ -190,10 +190,6 @@ Comes tick may before gsi = (may gsi ≡ true) ⊎ (((gsi ≡ tick) × IsTrue (l
 or_both_ways : (a b : Bool) → (a || b) ≡ true → (a ≡ true) ⊎ (b ≡ true)
 or_both_ways true b h = inl refl
 or_both_ways false b h = inr h
-
-or_right : (a b : Bool) → b ≡ true → (a || b) ≡ true
-or_right true b h = refl
-or_right false b h = h
 
 module _ (tick : ℕ) where
   -- an event more before

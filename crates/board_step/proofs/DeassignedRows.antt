@@ -37,6 +37,7 @@ use Rattle.board_step.specs.Step.{plan_on, outcome_of, with_counts, would_publis
 use Rattle.board_step.specs.History.{opening, Leads}
 use Rattle.board_step.specs.HistoryLaws.{EndsTrigger, MakesTrigger}
 use Rattle.board_step.proofs.CallManner.{replies_in, writes_in, refuses_in, ends, call_keeps, or_true}
+use Rattle.board_step.proofs.ConservingAcks.{or_right}
 use Rattle.board_step.proofs.SoundRows.{or_neither, or_both, none_fewer}
 
 -- ---- rows
@@ -75,10 +76,6 @@ found_any trigger gsi (x ∷ xs) row e = elim (is_named trigger gsi x) as (λ t.
   | true ↦ λ on _. ap (λ t. t || list_any (has_trigger trigger) xs) (first_so (has_trigger trigger x) (nat_eq x.gsi gsi) on)
   | false ↦ λ _ later. or_right (has_trigger trigger x) (list_any (has_trigger trigger) xs) (found_any trigger gsi xs row later)
 ] refl e
-  where
-    or_right : (a b : Bool) → b ≡ true → (a || b) ≡ true
-    or_right true b h = refl
-    or_right false b h = h
 
 -- after the row of a trigger went, it has none
 pub none_left : (trigger gsi : ℕ) (rows : List Irqfd) (row : Irqfd) → AreApart rows → named_row rows trigger gsi ≡ Some row → list_any (has_trigger trigger) (without_row rows trigger gsi) ≡ false

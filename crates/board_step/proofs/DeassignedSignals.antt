@@ -37,7 +37,7 @@ use Rattle.board_step.specs.History.{opening, Leads, next_board}
 use Rattle.board_step.specs.HistoryLaws.{board_at, board_left, is_tick, is_tick_mode, MakesTrigger, ChangesCountAlone, SignalsNothing, SignalsNoMore, NoSignalOfDeassignedTrigger}
 use Rattle.board_step.proofs.Following.{next_is, board_after_is_reached}
 use Rattle.board_step.proofs.SoundRows.{or_neither}
-use Rattle.board_step.proofs.ConservingAcks.{allows, may_after, Following, quiet_conserving}
+use Rattle.board_step.proofs.ConservingAcks.{or_right, allows, may_after, Following, quiet_conserving}
 use Rattle.board_step.proofs.ConservingCalls.{Lets, rung_quiet, call_keeps, tick_keeps}
 use Rattle.board_step.proofs.DeassignedRows.{last_answer, leads_apart, opening_apart, step_off, ends_off}
 
@@ -192,13 +192,9 @@ module _ (counter : ℕ) (b : Board) (ws : Wishes) where
           chip t u = unless_refused (first_of (range_reasons b.shape (calls.Store address len value)))
               (if t then ioapic_store b.shape (address - 0xfec00000) len value else if u then lapic_store routing b.shape (number_of caller) (address - 0xfee00000) len value else ring routing b.shape spaces.Memory address len value)
 
-          or_true : (t u : Bool) → u ≡ true → (t || u) ≡ true
-          or_true true u h = refl
-          or_true false u h = h
-
           by_address : (t u : Bool) → is_ioapic_address address ≡ t → is_lapic_address address ≡ u → Rings (plan_on b caller (calls.Store address len value))
           by_address true u is at = silent (calls.Store address len value) (inl (ap (λ t. t || is_lapic_address address) is))
-          by_address false true is at = silent (calls.Store address len value) (inl (or_true (is_ioapic_address address) (is_lapic_address address) at))
+          by_address false true is at = silent (calls.Store address len value) (inl (or_right (is_ioapic_address address) (is_lapic_address address) at))
           by_address false false is at = subst (λ (t : Bool). Rings (chip t (is_lapic_address address))) (sym is) (subst (λ (u : Bool). Rings (chip false u)) (sym at)
               (unless_rings (first_of (range_reasons b.shape (calls.Store address len value))) (ring routing b.shape spaces.Memory address len value) (ring_plainly spaces.Memory address len value)))
 
