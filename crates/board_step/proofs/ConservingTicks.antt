@@ -1,6 +1,6 @@
 -- Ticks are conserved, they are injected where the state is free, and other injections follow acknowledges.
 use Rattle.std.proofs.Common.{◌≡◌, ℕ, ◌+◌, ◌-◌, Bool, true, false, true≢false, not, ◌&&◌, ◌||◌, nat_eq, min, if◌then◌else◌, ◌⊎◌, inl, inr, List, [], ◌∷◌, ◌++◌, refl, sym, ap, subst, ◌∙◌, arith, Some, None}
-use Rattle.std.specs.Prelude.{IsTrue}
+use Rattle.std.specs.Prelude.{IsTrue, ◌≢◌}
 use Rattle.std.specs.List.{Contains, list_any}
 use Rattle.std.specs.declared.option.Option.{Option}
 use Rattle.std.proofs.lemmas.Bool.Decides.{nat_tests}
@@ -13,12 +13,14 @@ use Rattle.irq_base.specs.declared.event.Event.TheVariants.{Acked, Resampled, Wa
 use Rattle.irq_base.specs.declared.lists.Entry.{Entry}
 use Rattle.irq_base.specs.declared.message.Source.TheVariants.{Tick as TickSource}
 use Rattle.irq_base.specs.declared.reply.Reply.{Reply}
+use Rattle.irq_base.specs.declared.reply.Reply.TheVariants.{Held}
+use Rattle.irq_base.specs.declared.shape.Part.{Part}
 use Rattle.irq_base.specs.declared.shape.Part.TheVariants as parts
 use Rattle.irq_base.specs.declared.shape.Shape.{Shape}
 use Rattle.irq_base.specs.declared.status.Status.{Status}
 use Rattle.tick_reinject.specs.declared.state.TickState.{TickState}
-use Rattle.tick_reinject.specs.Ticks.{ticked, tick_injects, tick_injected}
-use Rattle.board_model.specs.Board.{Board, with_part}
+use Rattle.tick_reinject.specs.Ticks.{in_mode, ticked, tick_injects, tick_injected}
+use Rattle.board_model.specs.Board.{Board, part_of, with_part}
 use Rattle.board_model.specs.Routing.{Routing, routing_of_registry}
 use Rattle.board_model.specs.Plan.{the_reply, Plan, change}
 use Rattle.board_model.specs.Run.{Wishes, Outcome, run}
@@ -26,9 +28,9 @@ use Rattle.board_model.proofs.Sequence.{run-bind}
 use Rattle.board_raise.specs.Signal.{inject}
 use Rattle.board_step.specs.Ticks.{tick_or_hold}
 use Rattle.board_step.specs.Step.{plan_on, outcome_of, with_counts, would_publish, Step}
-use Rattle.board_step.specs.History.{next_board, Leads}
-use Rattle.board_step.specs.HistoryLaws.{is_tick, ticks_in, acks_in, ticks_taken_by, ticks_taken, is_tick_mode, sets_mode, TicksAreConserved, is_signal, TicksInjectFree, is_acked_of, OtherInjectionsFollowAcknowledges}
-use Rattle.board_step.proofs.Following.{next_is}
+use Rattle.board_step.specs.History.{opening, next_board, Leads, board_after}
+use Rattle.board_step.specs.HistoryLaws.{is_tick, ticks_in, acks_in, ticks_taken_by, ticks_taken, is_tick_mode, sets_mode, StartsReinjection, TicksAreConserved, HoldsBack, TicksInjectFree, is_acked_of, OtherInjectionsFollowAcknowledges}
+use Rattle.board_step.proofs.Following.{next_is, board_after_is_reached}
 use Rattle.board_step.proofs.SoundRows.{or_neither}
 use Rattle.board_step.proofs.ConservingQuiet.{inject_quiet}
 use Rattle.board_step.proofs.ConservingAcks.{or_right, may_after, Following, acks_append, quiet_acks}
@@ -122,6 +124,16 @@ step_balances b e c s on stays =
 
 -- ---- a history
 
+-- two parts of a history
+leads_on : (b : Board) (xs ys : List Entry) (mid c : Board) → Leads b xs mid → Leads mid ys c → Leads b (xs ++ ys) c
+leads_on b [] ys mid c same later = subst (λ (d : Board). Leads d ys c) (sym same) later
+leads_on b (x ∷ xs) ys mid c (next, step, leads) later = (next, step, leads_on next xs ys mid c leads later)
+
+-- the board between them
+pub leads_both : (b : Board) (xs ys : List Entry) (c : Board) → Leads b (xs ++ ys) c → (mid : Board) × Leads b xs mid × Leads mid ys c
+leads_both b [] ys c leads = (b, refl, leads)
+leads_both b (x ∷ xs) ys c (next, step, leads) = let rest = leads_both next xs ys c leads in (rest.0, (next, step, rest.1), rest.2)
+
 balance : (b : Board) (es : List Entry) (c : Board) → b.tick.reinjects ≡ true → Leads b es c → list_any sets_mode es ≡ false → b.tick.pending + ticks_in es ≡ c.tick.pending + ticks_taken b es
 balance b [] c on same stays = ap (λ (d : Board). d.tick.pending + 0) same
 balance b (e ∷ es) c on (next, step, leads) stays =
@@ -133,34 +145,84 @@ balance b (e ∷ es) c on (next, step, leads) stays =
     sum : (was mid last one more taken later again : ℕ) → mid + taken ≡ was + one → mid + more ≡ last + later → again ≡ later → was + (one + more) ≡ last + (taken + again)
     sum was mid last one more taken later again e f g = omega (arith, e, f, g)
 
-pub ticks_are_conserved : TicksAreConserved
-ticks_are_conserved b es c start leads stays =
+-- from any board on which reinjection starts
+conserved_from : (b : Board) (es : List Entry) (c : Board) → b.tick ≡ in_mode true → Leads b es c → list_any sets_mode es ≡ false → ticks_in es ≡ c.tick.pending + ticks_taken b es
+conserved_from b es c start leads stays =
     sum b.tick.pending (ticks_in es) c.tick.pending (ticks_taken b es) (ap (λ (t : TickState). t.pending) start) (balance b es c (ap (λ (t : TickState). t.reinjects) start) leads stays)
   where
     sum : (was all last taken : ℕ) → was ≡ 0 → was + all ≡ last + taken → all ≡ last + taken
     sum was all last taken e f = omega (arith, e, f)
 
+-- an entry that sets the mode of ticks leaves that mode at its start
+mode_set : (b : Board) (e : Entry) (c : Board) (reinject : Bool) → Step b e c → e.call ≡ calls.TickMode reinject → c.tick ≡ in_mode reinject
+mode_set b e c reinject s is =
+    let o = outcome_of b e s.wishes in
+    ap (λ (d : Board). d.tick) (sym s.leads) ∙ counted_tick (would_publish b e.call) o.board ∙ ap (λ (call : Call). (run (plan_on b e.caller call) b s.wishes).board.tick) is
+
+-- reinjection starts on the board after such entries
+started : (shape : Shape) (early : List Entry) (b : Board) → Leads (opening shape) early b → StartsReinjection early → b.tick ≡ in_mode true
+started shape early b leads (inl none) = ap (λ (d : Board). d.tick) (sym (subst (λ (es : List Entry). Leads (opening shape) es b) none leads))
+started shape early b leads (inr turned) = of_end (leads_both (opening shape) turned.before (turned.last ∷ []) b (subst (λ (es : List Entry). Leads (opening shape) es b) turned.ends leads))
+  where
+    of_end : ((mid : Board) × Leads (opening shape) turned.before mid × Leads mid (turned.last ∷ []) b) → b.tick ≡ in_mode true
+    of_end (mid, first, (next, step, same)) = ap (λ (d : Board). d.tick) (sym same) ∙ mode_set mid turned.last next true step turned.call
+
+pub ticks_are_conserved : TicksAreConserved
+ticks_are_conserved shape early es more last leads starts stays = of_start (leads_both (opening shape) early (es ++ more) last leads)
+  where
+    of_end : (b c : Board) → Leads (opening shape) early b → Leads b es c → ticks_in es ≡ (board_after (opening shape) (early ++ es)).tick.pending + ticks_taken (board_after (opening shape) early) es
+    of_end b c first later =
+        let from : board_after (opening shape) early ≡ b = board_after_is_reached (opening shape) early b first in
+        let to : board_after (opening shape) (early ++ es) ≡ c = board_after_is_reached (opening shape) (early ++ es) c (leads_on (opening shape) early es b c first later) in
+        subst (λ (x : Board × Board). ticks_in es ≡ x.1.tick.pending + ticks_taken x.0 es) (λ i. (sym from i, sym to i)) (conserved_from b es c (started shape early b first starts) later stays)
+
+    of_start : ((mid : Board) × Leads (opening shape) early mid × Leads mid (es ++ more) last) → ticks_in es ≡ (board_after (opening shape) (early ++ es)).tick.pending + ticks_taken (board_after (opening shape) early) es
+    of_start (b, first, rest) = let both = leads_both b es more last rest in of_end b both.0 first both.1
+
 -- ---- ticks are injected where the state is free
 
--- a tick that is held back is answered with no status
-held_back : (routing : Routing) (shape : Shape) (held : TickState) (injects : Bool) (b : Board) (ws : Wishes) (r : Reply) → injects ≡ false → (run (tick_or_hold routing shape held injects) b ws).log.answers ≡ r ∷ [] → is_signal r ≡ false
-held_back routing shape held true b ws r never answered = cc
-held_back routing shape held false b ws r never answered = sym (ap first_signals answered)
+-- a write of the tick state, and a count of calls, change no other part
+counted_part : (t : Bool) (b : Board) (v : TickState) (q : Part) → q ≢ parts.Tick → part_of (with_counts t (with_part b parts.Tick v)) q ≡ part_of b q
+counted_part true b v parts.Registry other = refl
+counted_part true b v parts.Counters other = refl
+counted_part true b v parts.Tick other = absurd (other refl)
+counted_part true b v parts.Pic other = refl
+counted_part true b v parts.Ioapic other = refl
+counted_part true b v (parts.Lapic n) other = refl
+counted_part false b v parts.Registry other = refl
+counted_part false b v parts.Counters other = refl
+counted_part false b v parts.Tick other = absurd (other refl)
+counted_part false b v parts.Pic other = refl
+counted_part false b v parts.Ioapic other = refl
+counted_part false b v (parts.Lapic n) other = refl
+
+only_answer : (r x : Reply) → r ∷ [] ≡ x ∷ [] → x ≡ r
+only_answer r x same = cc
+
+-- a tick that is not injected answers how many are pending, and writes no more
+held_back : (b : Board) (e : Entry) (c : Board) (s : Step b e c) → e.call ≡ calls.Tick → b.tick.reinjects ≡ true → tick_injects b.tick ≡ false → HoldsBack b e c
+held_back b e c s falls on never =
+    record {
+      reply = only_answer (Held (ticked b.tick).pending) e.reply (sym (ap (λ (o : Outcome (Unit {0})). o.log.answers) is) ∙ s.replied) ∙ ap Held (ticked_more b.tick on).1;
+      events = sym s.told ∙ ap (λ (o : Outcome (Unit {0})). o.log.events) is;
+      tick = ap (λ (d : Board). d.tick) left ∙ counted_tick (would_publish b e.call) during;
+      parts = λ q other. ap (λ (d : Board). part_of d q) left ∙ counted_part (would_publish b e.call) b (ticked b.tick) q other;
+    }
   where
-    first_signals : List Reply → Bool
-    first_signals [] = false
-    first_signals (x ∷ xs) = is_signal x
+    during : Board
+    during = with_part b parts.Tick (ticked b.tick)
+
+    routing : Routing
+    routing = routing_of_registry b.registry b.shape.tick
+
+    is : outcome_of b e s.wishes ≡ run (tick_or_hold routing b.shape (ticked b.tick) false) during s.wishes
+    is = ap (λ (call : Call). run (plan_on b e.caller call) b s.wishes) falls ∙ ap (λ (t : Bool). run (tick_or_hold routing b.shape (ticked b.tick) t) during s.wishes) never
+
+    left : c ≡ with_counts (would_publish b e.call) during
+    left = sym s.leads ∙ ap (λ (o : Outcome (Unit {0})). with_counts (would_publish b e.call) o.board) is
 
 pub ticks_inject_free : TicksInjectFree
-ticks_inject_free b e c s falls on signals = by_free b.tick.free refl
-  where
-    answered : (run (plan_on b e.caller calls.Tick) b s.wishes).log.answers ≡ e.reply ∷ []
-    answered = ap (λ call. (run (plan_on b e.caller call) b s.wishes).log.answers) (sym falls) ∙ s.replied
-
-    by_free : (free : Bool) → b.tick.free ≡ free → free ≡ true
-    by_free true is = refl
-    by_free false is = absurd (true≢false (sym signals ∙ held_back (routing_of_registry b.registry b.shape.tick) b.shape (ticked b.tick) (tick_injects b.tick) (with_part b parts.Tick (ticked b.tick)) s.wishes e.reply
-        (ap (λ t. not t || b.tick.free) on ∙ is) answered))
+ticks_inject_free b e c s falls on busy = held_back b e c s falls on (ap (λ t. not t || b.tick.free) on ∙ busy)
 
 -- ---- other injections follow acknowledges
 

@@ -19,9 +19,9 @@ use Rattle.irq_base.specs.declared.message.Source.TheVariants.{Resample}
 use Rattle.irq_base.specs.declared.message.Targets.{Targets}
 use Rattle.irq_base.specs.declared.refusal.Refusal.{Refusal}
 use Rattle.irq_base.specs.declared.reply.Reply.{Reply}
-use Rattle.irq_base.specs.declared.reply.Reply.TheVariants.{Signal, Done, Removed, Vector, Nmi, Refused}
+use Rattle.irq_base.specs.declared.reply.Reply.TheVariants.{Signal, Done, Held, Removed, Vector, Nmi, Refused}
 use Rattle.irq_base.specs.declared.shape.Part.{Part}
-use Rattle.irq_base.specs.declared.shape.Part.TheVariants.{Counters, Lapic}
+use Rattle.irq_base.specs.declared.shape.Part.TheVariants.{Counters, Tick as TickPart, Lapic}
 use Rattle.irq_base.specs.declared.shape.Shape.{Shape}
 use Rattle.irq_base.specs.declared.status.Cause.{Cause}
 use Rattle.irq_base.specs.declared.status.Cause.TheVariants.{Masked, NoProcessor, BadVector, Mode}
@@ -40,7 +40,7 @@ use Rattle.irqfd_set.specs.Rows.{has_resampler}
 use Rattle.ack_notifiers.specs.Rows.{watch_events}
 use Rattle.resampler.specs.Resample.{resample_events}
 use Rattle.route_table.specs.Pins.{gsi_of}
-use Rattle.tick_reinject.specs.Ticks.{in_mode}
+use Rattle.tick_reinject.specs.Ticks.{ticked}
 use Rattle.board_model.specs.Registry.{RegistryPart}
 use Rattle.board_model.specs.Board.{Board, part_of, with_part}
 use Rattle.board_model.specs.Chips.{pair_of, ioapic_of}
@@ -353,19 +353,33 @@ is_tick_mode _ = false
 abbrev pub sets_mode : Entry → Bool
 sets_mode e = is_tick_mode e.call
 
--- from the start of reinjection on, and until the mode is set again, the ticks are those that are pending and those that
--- acknowledges took
+-- the last of these entries turns reinjection on
+pub record TurnsReinjectionOn (early : List Entry) : Type 0 where
+  pub before : List Entry
+  pub last : Entry
+  pub ends : early ≡ before ++ last ∷ []
+  pub call : last.call ≡ TickMode true
+
+-- reinjection starts after these entries: at power-on there are none, else the last of them turns it on
+abbrev pub StartsReinjection : List Entry → Type 0
+StartsReinjection early = (early ≡ []) ⊎ TurnsReinjectionOn early
+
+-- in a legal history, from the start of reinjection on, and until the mode is set again, the ticks are those that are pending
+-- and those that acknowledges took
 abbrev pub TicksAreConserved : Type 0
-TicksAreConserved = (b : Board) (es : List Entry) (c : Board) → b.tick ≡ in_mode true → Leads b es c → list_any sets_mode es ≡ false → ticks_in es ≡ c.tick.pending + ticks_taken b es
+TicksAreConserved = (shape : Shape) (early es more : List Entry) (last : Board) → Leads (opening shape) (early ++ (es ++ more)) last → StartsReinjection early → list_any sets_mode es ≡ false →
+    ticks_in es ≡ (board_after (opening shape) (early ++ es)).tick.pending + ticks_taken (board_after (opening shape) early) es
 
--- whether a reply is a status
-abbrev pub is_signal : Reply → Bool
-is_signal (Signal status) = true
-is_signal _ = false
+-- a tick that is held back: it is pending, no event is told, and no part but the tick state changes
+pub record HoldsBack (b : Board) (e : Entry) (c : Board) : Type 0 where
+  pub reply : e.reply ≡ Held (b.tick.pending + 1)
+  pub events : e.events ≡ []
+  pub tick : c.tick ≡ ticked b.tick
+  pub parts : (q : Part) → q ≢ TickPart → part_of c q ≡ part_of b q
 
--- a tick is injected by a Tick under reinjection only where the state was free
+-- under reinjection a tick that falls where the state is not free is held back, so that ticks inject only where it is free
 abbrev pub TicksInjectFree : Type 0
-TicksInjectFree = (b : Board) (e : Entry) (c : Board) → Step b e c → e.call ≡ Tick → b.tick.reinjects ≡ true → is_signal e.reply ≡ true → b.tick.free ≡ true
+TicksInjectFree = (b : Board) (e : Entry) (c : Board) → Step b e c → e.call ≡ Tick → b.tick.reinjects ≡ true → b.tick.free ≡ false → HoldsBack b e c
 
 -- whether an event is an acknowledge of a pin of this GSI
 abbrev pub is_acked_of : ℕ → Event → Bool

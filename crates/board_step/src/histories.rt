@@ -22,15 +22,15 @@ pub fn no_signal_of_deassigned_trigger()
     ensures { NoSignalOfDeassignedTrigger }
 {}
 
-/// A law: from the start of reinjection on, and until the mode is set again, the ticks that fell are those that are pending
-/// and those that acknowledges took.
+/// A law: in a legal history, from the start of reinjection on, at power-on or by `TickMode`, and until the mode is set
+/// again, the ticks that fell are those that are pending and those that acknowledges took.
 #[tactic(auto, using(crate::proofs::ConservingTicks::ticks_are_conserved))]
 pub fn ticks_are_conserved()
     ensures { TicksAreConserved }
 {}
 
-/// A law: under reinjection a tick that falls is injected only where the state was free.
-#[tactic(auto, using(crate::proofs::ConservingTicks::ticks_inject_free))]
+/// A law: under reinjection a tick that falls is injected only where the state is free; else it is held back, which tells no
+/// event and changes no part but the tick state.
 pub fn ticks_inject_free()
     ensures { TicksInjectFree }
 {}
