@@ -1,6 +1,6 @@
 -- Ticks are conserved, they are injected where the state is free, and other injections follow acknowledges.
 use Rattle.std.proofs.Common.{◌≡◌, ℕ, ◌+◌, ◌-◌, Bool, true, false, true≢false, not, ◌&&◌, ◌||◌, nat_eq, min, if◌then◌else◌, ◌⊎◌, inl, inr, List, [], ◌∷◌, ◌++◌, refl, sym, ap, subst, ◌∙◌, arith, Some, None}
-use Rattle.std.specs.Prelude.{IsTrue, ◌≢◌}
+use Rattle.std.specs.Prelude.{◌≢◌}
 use Rattle.std.specs.List.{Contains, list_any}
 use Rattle.std.specs.declared.option.Option.{Option}
 use Rattle.std.proofs.lemmas.Bool.Decides.{nat_tests}
@@ -29,11 +29,11 @@ use Rattle.board_raise.specs.Signal.{inject}
 use Rattle.board_step.specs.Ticks.{tick_or_hold}
 use Rattle.board_step.specs.Step.{plan_on, outcome_of, with_counts, would_publish, Step}
 use Rattle.board_step.specs.History.{opening, next_board, Leads, board_after}
-use Rattle.board_step.specs.HistoryLaws.{is_tick, ticks_in, acks_in, ticks_taken_by, ticks_taken, is_tick_mode, sets_mode, StartsReinjection, TicksAreConserved, HoldsBack, TicksInjectFree, is_acked_of, OtherInjectionsFollowAcknowledges}
+use Rattle.board_step.specs.HistoryLaws.{is_tick, ticks_in, acks_in, ticks_taken_by, ticks_taken, is_tick_mode, sets_mode, StartsReinjection, TicksAreConserved, HoldsBack, TicksInjectFree, acks_or_injects, FollowsAcknowledge, OtherInjectionsFollowAcknowledges}
 use Rattle.board_step.proofs.Following.{next_is, board_after_is_reached}
 use Rattle.board_step.proofs.SoundRows.{or_neither}
 use Rattle.board_step.proofs.ConservingQuiet.{inject_quiet}
-use Rattle.board_step.proofs.ConservingAcks.{or_right, may_after, Following, acks_append, quiet_acks}
+use Rattle.board_step.proofs.ConservingAcks.{is_rang, due_after, Singly, acks_append, quiet_acks}
 use Rattle.board_step.proofs.ConservingCalls.{Lets, call_keeps, tick_keeps}
 
 -- ---- a tick that falls
@@ -234,56 +234,68 @@ lets_none calls.Tick makes other stays = cc
 lets_none (calls.TickMode reinject) makes other stays = cc
 lets_none _ makes other stays = tt
 
-follows : (b : Board) (caller : Caller) (ws : Wishes) (call : Call) → ((trigger gsi : ℕ) (resample : Option ℕ) → call ≡ calls.Assign trigger gsi resample → ⊥) → Following b.shape.tick true (λ _. false) (run (plan_on b caller call) b ws).log.events
-follows b caller ws call makes = by_call call makes
+singly : (b : Board) (caller : Caller) (ws : Wishes) (call : Call) → ((trigger gsi : ℕ) (resample : Option ℕ) → call ≡ calls.Assign trigger gsi resample → ⊥) → Singly b.shape.tick (λ _. false) false (run (plan_on b caller call) b ws).log.events
+singly b caller ws call makes = by_call call makes
   where
     routing : Routing
     routing = routing_of_registry b.registry b.shape.tick
 
-    by_call : (call : Call) → ((trigger gsi : ℕ) (resample : Option ℕ) → call ≡ calls.Assign trigger gsi resample → ⊥) → Following b.shape.tick true (λ _. false) (run (plan_on b caller call) b ws).log.events
-    by_call calls.Tick makes = (tick_keeps routing b.shape true (λ _. false) (ticked b.tick) (tick_injects b.tick) (with_part b parts.Tick (ticked b.tick)) ws).follows
+    by_call : (call : Call) → ((trigger gsi : ℕ) (resample : Option ℕ) → call ≡ calls.Assign trigger gsi resample → ⊥) → Singly b.shape.tick (λ _. false) false (run (plan_on b caller call) b ws).log.events
+    by_call calls.Tick makes = (tick_keeps routing b.shape true (λ _. false) (ticked b.tick) (tick_injects b.tick) (with_part b parts.Tick (ticked b.tick)) ws).singly
     by_call (calls.TickMode reinject) makes = tt
-    by_call call makes = (call_keeps routing b.shape true (λ _. false) caller call (lets_none call makes refl refl) b ws).follows
+    by_call call makes = (call_keeps routing b.shape true (λ _. false) caller call (lets_none call makes refl refl) b ws).singly
 
--- why an injection came: it might come before, it is of the tick after an acknowledge of its GSI, or an ioeventfd was rung
-abbrev Comes : ℕ → (ℕ → Bool) → List Event → ℕ → Type 0
-Comes tick may before gsi = (may gsi ≡ true) ⊎ (((gsi ≡ tick) × IsTrue (list_any (is_acked_of tick) before)) ⊎ ((counter : ℕ) × Contains before (Rang counter)))
+-- no event of these is that of an ioeventfd
+abbrev RingsNothing : List Event → Type 0
+RingsNothing events = (counter : ℕ) → Contains events (Rang counter) → ⊥
 
-or_both_ways : (a b : Bool) → (a || b) ≡ true → (a ≡ true) ⊎ (b ≡ true)
-or_both_ways true b h = inl refl
-or_both_ways false b h = inr h
+head_rings : (x : Event) (xs : List Event) → RingsNothing (x ∷ xs) → is_rang x ≡ false
+head_rings (Rang counter) xs never = absurd (never counter (Contains-append_left (Rang counter ∷ []) xs (Rang counter) (0, omega arith, refl)))
+head_rings (Acked pin gsi) xs never = refl
+head_rings (Resampled counter) xs never = refl
+head_rings (Watched counter) xs never = refl
+head_rings (Injected gsi status) xs never = refl
+head_rings (Resent pin status) xs never = refl
+head_rings (Ipi status) xs never = refl
+
+-- why the tick is injected: it was due before, and stays so, or an acknowledge made it due
+abbrev Comes : ℕ → Bool → List Event → Type 0
+Comes tick due before = ((due ≡ true) × (list_any acks_or_injects before ≡ false)) ⊎ FollowsAcknowledge tick before
 
 module _ (tick : ℕ) where
   -- an event more before
-  comes_later : (may : ℕ → Bool) (x : Event) (before : List Event) (gsi : ℕ) → Comes tick (may_after tick may x) before gsi → Comes tick may (x ∷ before) gsi
-  comes_later may x before gsi (inr (inl here)) = inr (inl (here.0, or_right (is_acked_of tick x) (list_any (is_acked_of tick) before) here.1))
-  comes_later may x before gsi (inr (inr rang)) = inr (inr (rang.0, Contains-append_right (x ∷ []) before (Rang rang.0) rang.1))
-  comes_later may x before gsi (inl allowed) = by_event x allowed
+  comes_later : (due : Bool) (x : Event) (before : List Event) → Comes tick (due_after tick due x) before → Comes tick due (x ∷ before)
+  comes_later due x before (inr found) = inr (record { early = x ∷ found.early; pin = found.pin; mid = found.mid; told = ap (λ l. x ∷ l) found.told; next = found.next })
+  comes_later due x before (inl (is, none)) = by_event x is
     where
-      acked : (g : ℕ) → (nat_eq g tick && nat_eq gsi tick) ≡ true → (gsi ≡ tick) × (nat_eq (if nat_eq g tick then 1 else 0) 1 ≡ true)
-      acked g h = grind (arith, nat_tests)
+      same : (g : ℕ) → nat_eq g tick ≡ true → g ≡ tick
+      same g h = grind (arith, nat_tests)
 
-      by_event : (x : Event) → may_after tick may x gsi ≡ true → Comes tick may (x ∷ before) gsi
-      by_event (Acked pin None) h = inl h
-      by_event (Acked pin (Some g)) h = elim (or_both_ways (may gsi) (nat_eq g tick && nat_eq gsi tick) h) [
-        | inl might ↦ inl might
-        | inr is ↦ let a = acked g is in inr (inl (a.0, ap (λ t. t || list_any (is_acked_of tick) before) a.1))
-      ]
-      by_event (Rang counter) h = inr (inr (counter, Contains-append_left (Rang counter ∷ []) before (Rang counter) (0, omega arith, refl)))
-      by_event (Resampled counter) h = inl h
-      by_event (Watched counter) h = inl h
-      by_event (Injected g status) h = inl h
-      by_event (Resent pin status) h = inl h
-      by_event (Ipi status) h = inl h
+      by_event : (x : Event) → due_after tick due x ≡ true → Comes tick due (x ∷ before)
+      by_event (Acked pin None) is = absurd (true≢false (sym is))
+      by_event (Acked pin (Some g)) is = inr (record { early = []; pin = pin; mid = before; told = ap (λ n. Acked pin (Some n) ∷ before) (same g is); next = none })
+      by_event (Injected g status) is = absurd (true≢false (sym is))
+      by_event (Rang counter) is = inl (is, none)
+      by_event (Resampled counter) is = inl (is, none)
+      by_event (Watched counter) is = inl (is, none)
+      by_event (Resent pin status) is = inl (is, none)
+      by_event (Ipi status) is = inl (is, none)
 
-  comes : (may : ℕ → Bool) (before after : List Event) (gsi : ℕ) (status : Status) → Following tick true may (before ++ Injected gsi status ∷ after) → Comes tick may before gsi
-  comes may [] after gsi status h = inl h.0
-  comes may (x ∷ before) after gsi status h = comes_later may x before gsi (comes (may_after tick may x) before after gsi status h.1)
+  comes : (due : Bool) (before after : List Event) (gsi : ℕ) (status : Status) → RingsNothing (before ++ Injected gsi status ∷ after) → Singly tick (λ _. false) due (before ++ Injected gsi status ∷ after) → (gsi ≡ tick) × Comes tick due before
+  comes due [] after gsi status never h = let both = split due h.0 in (both.1, inl (both.0, refl))
+    where
+      split : (due : Bool) → (due && nat_eq gsi tick) ≡ true → (due ≡ true) × (gsi ≡ tick)
+      split true h = (refl, grind (arith, nat_tests))
+      split false h = absurd (true≢false (sym h))
+  comes due (x ∷ before) after gsi status never h =
+      let later = comes (due_after tick due x) before after gsi status (λ counter rang. never counter (Contains-append_right (x ∷ []) (before ++ Injected gsi status ∷ after) (Rang counter) rang)) (h.1 (head_rings x (before ++ Injected gsi status ∷ after) never)) in
+      (later.0, comes_later due x before later.1)
 
 pub other_injections_follow_acknowledges : OtherInjectionsFollowAcknowledges
 other_injections_follow_acknowledges b e c s rings makes before after gsi status told =
-    elim (comes b.shape.tick (λ _. false) before after gsi status (subst (λ (events : List Event). Following b.shape.tick true (λ _. false) events) (s.told ∙ told) (follows b e.caller s.wishes e.call makes))) [
-      | inl never ↦ absurd (true≢false (sym never))
-      | inr (inl found) ↦ (found.0, subst (λ (g : ℕ). IsTrue (list_any (is_acked_of g) before)) (sym found.0) found.1)
-      | inr (inr rang) ↦ absurd (rings rang.0 (subst (λ (events : List Event). Contains events (Rang rang.0)) (sym told) (Contains-append_left before (Injected gsi status ∷ after) (Rang rang.0) rang.1)))
+    let found = comes b.shape.tick false before after gsi status (subst (λ (events : List Event). RingsNothing events) told rings)
+    (subst (λ (events : List Event). Singly b.shape.tick (λ _. false) false events) (s.told ∙ told) (singly b e.caller s.wishes e.call makes)) in
+    elim found.1 [
+      | inl early ↦ absurd (true≢false (sym early.0))
+      | inr follows ↦ (found.0, subst (λ (g : ℕ). FollowsAcknowledge g before) (sym found.0) follows)
     ]

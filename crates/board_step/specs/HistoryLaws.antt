@@ -381,11 +381,22 @@ pub record HoldsBack (b : Board) (e : Entry) (c : Board) : Type 0 where
 abbrev pub TicksInjectFree : Type 0
 TicksInjectFree = (b : Board) (e : Entry) (c : Board) → Step b e c → e.call ≡ Tick → b.tick.reinjects ≡ true → b.tick.free ≡ false → HoldsBack b e c
 
--- whether an event is an acknowledge of a pin of this GSI
-abbrev pub is_acked_of : ℕ → Event → Bool
-is_acked_of gsi event = nat_eq (is_ack_of gsi event) 1
+-- whether an event is an acknowledge or an injection
+abbrev pub acks_or_injects : Event → Bool
+acks_or_injects (Acked pin gsi) = true
+acks_or_injects (Injected gsi status) = true
+acks_or_injects _ = false
 
--- in an entry that rings no ioeventfd and makes no irqfd, each injection is of the tick, by an acknowledge of its GSI before it
+-- before stands an acknowledge of this GSI, and after it neither an acknowledge nor an injection
+pub record FollowsAcknowledge (gsi : ℕ) (before : List Event) : Type 0 where
+  pub early : List Event
+  pub pin : Pin
+  pub mid : List Event
+  pub told : before ≡ early ++ Acked pin (Some gsi) ∷ mid
+  pub next : list_any acks_or_injects mid ≡ false
+
+-- in an entry that rings no ioeventfd and makes no irqfd, each injection is of the tick, and has an acknowledge of the tick's
+-- GSI to itself
 abbrev pub OtherInjectionsFollowAcknowledges : Type 0
 OtherInjectionsFollowAcknowledges = (b : Board) (e : Entry) (c : Board) → Step b e c → ((counter : ℕ) → Contains e.events (Rang counter) → ⊥) → ((trigger gsi : ℕ) (resample : Option ℕ) → e.call ≡ Assign trigger gsi resample → ⊥) →
-    (before after : List Event) (gsi : ℕ) (status : Status) → e.events ≡ before ++ Injected gsi status ∷ after → (gsi ≡ b.shape.tick) × IsTrue (list_any (is_acked_of gsi) before)
+    (before after : List Event) (gsi : ℕ) (status : Status) → e.events ≡ before ++ Injected gsi status ∷ after → (gsi ≡ b.shape.tick) × FollowsAcknowledge gsi before

@@ -35,8 +35,8 @@ pub fn ticks_inject_free()
     ensures { TicksInjectFree }
 {}
 
-/// A law: where an entry rings no ioeventfd and makes no irqfd, each injection that it tells is of the tick, after an
-/// acknowledge of the tick's GSI.
+/// A law: where an entry rings no ioeventfd and makes no irqfd, each injection that it tells is of the tick, and follows an
+/// acknowledge of the tick's GSI with no other acknowledge and no other injection between.
 pub fn other_injections_follow_acknowledges()
     ensures { OtherInjectionsFollowAcknowledges }
 {}
