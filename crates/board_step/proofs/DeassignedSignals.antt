@@ -43,11 +43,11 @@ use Rattle.board_step.proofs.DeassignedRows.{last_answer, leads_apart, opening_a
 
 -- ---- lists
 
-no_member : {X : Type 0} (x : X) → Contains [] x → ⊥
+pub no_member : {X : Type 0} (x : X) → Contains [] x → ⊥
 no_member x h = let below : h.0 < 0 = h.1 in absurd (omega (arith, below))
 
 -- a member is the first, or one of the others
-first_or_later : {X : Type 0} (y x : X) (xs : List X) → Contains (y ∷ xs) x → (x ≡ y) ⊎ Contains xs x
+pub first_or_later : {X : Type 0} (y x : X) (xs : List X) → Contains (y ∷ xs) x → (x ≡ y) ⊎ Contains xs x
 first_or_later {X} y x xs (k, below, is) = by_place k below is
   where
     by_place : (k : ℕ) → k < length (y ∷ xs) → slice_index_or (y ∷ xs) k x ≡ x → (x ≡ y) ⊎ Contains xs x

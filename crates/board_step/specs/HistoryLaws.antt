@@ -41,6 +41,7 @@ use Rattle.ack_notifiers.specs.Rows.{watch_events}
 use Rattle.resampler.specs.Resample.{resample_events}
 use Rattle.route_table.specs.Pins.{gsi_of}
 use Rattle.tick_reinject.specs.Ticks.{ticked}
+use Rattle.board_model.specs.declared.trigger.TriggerWord.{TriggerWord}
 use Rattle.board_model.specs.Registry.{RegistryPart}
 use Rattle.board_model.specs.Board.{Board, part_of, with_part}
 use Rattle.board_model.specs.Chips.{pair_of, ioapic_of}
@@ -400,3 +401,23 @@ pub record FollowsAcknowledge (gsi : ℕ) (before : List Event) : Type 0 where
 abbrev pub OtherInjectionsFollowAcknowledges : Type 0
 OtherInjectionsFollowAcknowledges = (b : Board) (e : Entry) (c : Board) → Step b e c → ((counter : ℕ) → Contains e.events (Rang counter) → ⊥) → ((trigger gsi : ℕ) (resample : Option ℕ) → e.call ≡ Assign trigger gsi resample → ⊥) →
     (before after : List Event) (gsi : ℕ) (status : Status) → e.events ≡ before ++ Injected gsi status ∷ after → (gsi ≡ b.shape.tick) × FollowsAcknowledge gsi before
+
+-- ---- an irqfd injects once
+
+-- no event, or one injection of this GSI
+abbrev pub InjectsAtMostOnce : ℕ → List Event → Type 0
+InjectsAtMostOnce gsi events = (events ≡ []) ⊎ ((status : Status) × (events ≡ Injected gsi status ∷ []))
+
+-- what is told where a counter is rung: that it rang, and one injection of its irqfd, if it is the trigger of one
+abbrev pub RingsOnce : ℕ → Option TriggerWord → List Event → Type 0
+RingsOnce counter None events = events ≡ Rang counter ∷ []
+RingsOnce counter (Some trigger) events = (status : Status) × (events ≡ Rang counter ∷ Injected trigger.gsi status ∷ [])
+
+-- an irqfd that is made injects at most once, and one that is rung once: no more is told
+pub record InjectsOnce (b : Board) (e : Entry) : Type 0 where
+  pub made : (trigger gsi : ℕ) (resample : Option ℕ) → e.call ≡ Assign trigger gsi resample → InjectsAtMostOnce gsi e.events
+  pub rung : (counter : ℕ) → Contains e.events (Rang counter) → RingsOnce counter ((routing_of_registry b.registry b.shape.tick).trigger counter) e.events
+
+-- so it is in each step
+abbrev pub OneInjectionOfAnIrqfd : Type 0
+OneInjectionOfAnIrqfd = (b : Board) (e : Entry) (c : Board) → Step b e c → InjectsOnce b e

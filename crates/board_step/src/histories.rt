@@ -1,6 +1,6 @@
 //! The laws of legal histories: functions with no body, the contract of each being a law.
 
-ghost use Rattle.board_step.specs.HistoryLaws.{RequestsStayPending, EachAcknowledgeResamplesOnce, NoSignalOfDeassignedTrigger, TicksAreConserved, TicksInjectFree, OtherInjectionsFollowAcknowledges};
+ghost use Rattle.board_step.specs.HistoryLaws.{RequestsStayPending, EachAcknowledgeResamplesOnce, NoSignalOfDeassignedTrigger, TicksAreConserved, TicksInjectFree, OtherInjectionsFollowAcknowledges, OneInjectionOfAnIrqfd};
 
 /// A law: in a legal history each sending reaches a set of processors that it may reach, and each of these has the request
 /// from then on, until it takes it by `Ack`.
@@ -39,4 +39,10 @@ pub fn ticks_inject_free()
 /// acknowledge of the tick's GSI with no other acknowledge and no other injection between.
 pub fn other_injections_follow_acknowledges()
     ensures { OtherInjectionsFollowAcknowledges }
+{}
+
+/// A law: an entry that makes an irqfd tells no event or one injection of its GSI; one that rings an ioeventfd tells that, and
+/// where the counter is the trigger of an irqfd, one injection of its GSI.
+pub fn one_injection_of_an_irqfd()
+    ensures { OneInjectionOfAnIrqfd }
 {}

@@ -12,7 +12,7 @@ mod sound;
 mod typed;
 
 pub use histories::{
-    each_acknowledge_resamples_once, no_signal_of_deassigned_trigger,
+    each_acknowledge_resamples_once, no_signal_of_deassigned_trigger, one_injection_of_an_irqfd,
     other_injections_follow_acknowledges, requests_stay_pending, ticks_are_conserved,
     ticks_inject_free,
 };
