@@ -1,5 +1,5 @@
 -- What an outcome takes off the pending ticks, and which injections its events may tell; acknowledges take a tick each.
-use Rattle.std.proofs.Common.{◌≡◌, ℕ, ◌+◌, ◌-◌, Bool, true, false, not, ◌&&◌, ◌||◌, nat_eq, if◌then◌else◌, List, [], ◌∷◌, ◌++◌, length, ◌≤◌, map, refl, sym, ap, subst, ◌∙◌, append-nil, arith, Some, None}
+use Rattle.std.proofs.Common.{◌≡◌, ℕ, ◌+◌, ◌-◌, Bool, true, false, not, ◌&&◌, ◌||◌, nat_eq, if◌then◌else◌, List, [], ◌∷◌, ◌++◌, map, refl, sym, ap, subst, ◌∙◌, arith, Some, None}
 use Rattle.std.specs.declared.option.Option.{Option}
 use Rattle.irq_base.specs.declared.event.Event.{Event}
 use Rattle.irq_base.specs.declared.event.Event.TheVariants.{Acked, Resampled, Watched, Rang, Injected, Resent, Ipi}
@@ -26,13 +26,12 @@ use Rattle.board_model.specs.Plan.{About, injected, resent, ipi, the_reply, even
 use Rattle.board_model.specs.Run.{Wishes, next_wish, later_wishes, Outcome, run, then_run}
 use Rattle.board_model.proofs.Lens.{part_of-with_other}
 use Rattle.board_model.proofs.Sequence.{run-bind}
-use Rattle.board_raise.proofs.Counting.{Told, inject_tells}
 use Rattle.board_raise.specs.Send.{send}
 use Rattle.board_raise.specs.Signal.{is_accepted, accept_pin, let_go, inject}
 use Rattle.board_ack.specs.Ticks.{inject_tick, inject_next, acknowledge_tick}
 use Rattle.board_ack.specs.Acknowledge.{say_each, signal_each, resample, notify, resample_and_notify, tell_concerned, resend, clear_and_resend, end_level, end_tick, acknowledge, acknowledge_each}
 use Rattle.board_step.specs.HistoryLaws.{is_ack_of, acks_in}
-use Rattle.board_step.proofs.CountingCalls.{Any}
+use Rattle.board_step.proofs.ConservingOnce.{injects_before, inject_injects}
 use Rattle.board_step.proofs.ConservingQuiet.{is_quiet, shows_quietly, Quiet, quiet_bind, accept_pin_quiet, send_quiet, let_go_quiet, inject_quiet}
 
 -- ---- the injections that events may tell
@@ -157,21 +156,6 @@ module _ (tick : ℕ) (may : ℕ → Bool) where
   silent_singly due (Watched counter ∷ xs) ys h later = (refl, λ _. silent_singly due xs ys h.1 later)
   silent_singly due (Resent pin status ∷ xs) ys h later = (refl, λ _. silent_singly due xs ys h.1 later)
   silent_singly due (Ipi status ∷ xs) ys h later = (refl, λ _. silent_singly due xs ys h.1 later)
-
-  -- one injection of the tick, which is due
-  one_singly : (events : List Event) → length events ≤ 1 → AreQuiet (λ g. nat_eq g tick) events → Singly tick may true events
-  one_singly [] few h = tt
-  one_singly (x ∷ []) few h = (one x h.0, λ _. tt)
-    where
-      one : (x : Event) → is_quiet (λ g. nat_eq g tick) x ≡ true → admits tick may true x ≡ true
-      one (Acked pin gsi) h = refl
-      one (Rang counter) h = refl
-      one (Resampled counter) h = refl
-      one (Watched counter) h = refl
-      one (Injected gsi status) h = or_right (may gsi) (nat_eq gsi tick) h
-      one (Resent pin status) h = refl
-      one (Ipi status) h = refl
-  one_singly (x ∷ y ∷ xs) few h = absurd (omega (arith, few))
 
 module _ (tick : ℕ) (rings : Bool) where
   after_more : (may more : ℕ → Bool) (event : Event) → ((g : ℕ) → may g ≡ true → more g ≡ true) → (g : ℕ) → may_after tick may event g ≡ true → may_after tick more event g ≡ true
@@ -423,14 +407,9 @@ module _ (routing : Routing) (shape : Shape) (rings : Bool) where
 
   inject_singly : (may : ℕ → Bool) → DueSingly may true (inject_tick routing shape (λ pic. injected shape.tick pic))
   inject_singly may = λ b ws.
-      let m = inject shape.cpus (routing.targets shape.tick) TickSource (λ pic. injected shape.tick pic) in
-      let f : Status → Plan (Unit {0}) = λ status. change parts.Tick (λ tick. tick_injected tick status) in
-      let o = run m b ws in
-      let told : Told Any 1 0 o = inject_tells Any (λ _ _ _ _ _. tt) shape.cpus (routing.targets shape.tick) TickSource (λ pic. injected shape.tick pic) 1 0 (λ _. refl) (λ _. refl) b ws tt in
-      subst (λ (q : Outcome (Unit {0})). Singly shape.tick may true q.log.events) (sym (run-bind f m b ws))
-      (subst (λ (events : List Event). Singly shape.tick may true events) (sym (append-nil o.log.events))
-      (one_singly shape.tick may o.log.events told.events_at_most (run_quiet (λ g. nat_eq g shape.tick) m b ws
-      (inject_quiet (λ g. nat_eq g shape.tick) shape.cpus (routing.targets shape.tick) TickSource (λ pic. injected shape.tick pic) (λ _. same shape.tick))).1))
+      let one = injects_before shape.tick (λ status. change parts.Tick (λ tick. tick_injected tick status)) (inject shape.cpus (routing.targets shape.tick) TickSource (λ pic. injected shape.tick pic))
+      (inject_injects shape.tick shape.cpus (routing.targets shape.tick) TickSource) (λ status b ws. refl) b ws in
+      subst (λ (events : List Event). Singly shape.tick may true events) (sym one.1) (or_right (may shape.tick) (nat_eq shape.tick shape.tick) (same shape.tick), λ _. tt)
     where
       same : (n : ℕ) → nat_eq n n ≡ true
       same n = grind arith

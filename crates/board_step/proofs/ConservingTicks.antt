@@ -12,7 +12,6 @@ use Rattle.irq_base.specs.declared.event.Event.{Event}
 use Rattle.irq_base.specs.declared.event.Event.TheVariants.{Acked, Resampled, Watched, Rang, Injected, Resent, Ipi}
 use Rattle.irq_base.specs.declared.lists.Entry.{Entry}
 use Rattle.irq_base.specs.declared.message.Source.TheVariants.{Tick as TickSource}
-use Rattle.irq_base.specs.declared.reply.Reply.{Reply}
 use Rattle.irq_base.specs.declared.reply.Reply.TheVariants.{Held}
 use Rattle.irq_base.specs.declared.shape.Part.{Part}
 use Rattle.irq_base.specs.declared.shape.Part.TheVariants as parts
@@ -32,6 +31,8 @@ use Rattle.board_step.specs.History.{opening, next_board, Leads, board_after}
 use Rattle.board_step.specs.HistoryLaws.{is_tick, ticks_in, acks_in, ticks_taken_by, ticks_taken, is_tick_mode, sets_mode, StartsReinjection, TicksAreConserved, HoldsBack, TicksInjectFree, acks_or_injects, FollowsAcknowledge, OtherInjectionsFollowAcknowledges}
 use Rattle.board_step.proofs.Following.{next_is, board_after_is_reached}
 use Rattle.board_step.proofs.SoundRows.{or_neither}
+use Rattle.board_step.proofs.DeassignedRows.{last_answer}
+use Rattle.board_step.proofs.DeassignedSignals.{leads_both}
 use Rattle.board_step.proofs.ConservingQuiet.{inject_quiet}
 use Rattle.board_step.proofs.ConservingAcks.{is_rang, due_after, Singly, acks_append, quiet_acks}
 use Rattle.board_step.proofs.ConservingCalls.{Lets, call_keeps, tick_keeps}
@@ -129,11 +130,6 @@ leads_on : (b : Board) (xs ys : List Entry) (mid c : Board) → Leads b xs mid �
 leads_on b [] ys mid c same later = subst (λ (d : Board). Leads d ys c) (sym same) later
 leads_on b (x ∷ xs) ys mid c (next, step, leads) later = (next, step, leads_on next xs ys mid c leads later)
 
--- the board between them
-pub leads_both : (b : Board) (xs ys : List Entry) (c : Board) → Leads b (xs ++ ys) c → (mid : Board) × Leads b xs mid × Leads mid ys c
-leads_both b [] ys c leads = (b, refl, leads)
-leads_both b (x ∷ xs) ys c (next, step, leads) = let rest = leads_both next xs ys c leads in (rest.0, (next, step, rest.1), rest.2)
-
 balance : (b : Board) (es : List Entry) (c : Board) → b.tick.reinjects ≡ true → Leads b es c → list_any sets_mode es ≡ false → b.tick.pending + ticks_in es ≡ c.tick.pending + ticks_taken b es
 balance b [] c on same stays = ap (λ (d : Board). d.tick.pending + 0) same
 balance b (e ∷ es) c on (next, step, leads) stays =
@@ -196,14 +192,11 @@ counted_part false b v parts.Pic other = refl
 counted_part false b v parts.Ioapic other = refl
 counted_part false b v (parts.Lapic n) other = refl
 
-only_answer : (r x : Reply) → r ∷ [] ≡ x ∷ [] → x ≡ r
-only_answer r x same = cc
-
 -- a tick that is not injected answers how many are pending, and writes no more
 held_back : (b : Board) (e : Entry) (c : Board) (s : Step b e c) → e.call ≡ calls.Tick → b.tick.reinjects ≡ true → tick_injects b.tick ≡ false → HoldsBack b e c
 held_back b e c s falls on never =
     record {
-      reply = only_answer (Held (ticked b.tick).pending) e.reply (sym (ap (λ (o : Outcome (Unit {0})). o.log.answers) is) ∙ s.replied) ∙ ap Held (ticked_more b.tick on).1;
+      reply = last_answer [] (Held (ticked b.tick).pending) e.reply (sym (ap (λ (o : Outcome (Unit {0})). o.log.answers) is) ∙ s.replied) ∙ ap Held (ticked_more b.tick on).1;
       events = sym s.told ∙ ap (λ (o : Outcome (Unit {0})). o.log.events) is;
       tick = ap (λ (d : Board). d.tick) left ∙ counted_tick (would_publish b e.call) during;
       parts = λ q other. ap (λ (d : Board). part_of d q) left ∙ counted_part (would_publish b e.call) b (ticked b.tick) q other;

@@ -237,7 +237,7 @@ signals_no_more counter b e c s off = record {
 -- ---- a history
 
 -- the board between two parts of a history
-leads_both : (b : Board) (xs ys : List Entry) (c : Board) → Leads b (xs ++ ys) c → (mid : Board) × Leads b xs mid × Leads mid ys c
+pub leads_both : (b : Board) (xs ys : List Entry) (c : Board) → Leads b (xs ++ ys) c → (mid : Board) × Leads b xs mid × Leads mid ys c
 leads_both b [] ys c leads = (b, refl, leads)
 leads_both b (x ∷ xs) ys c (next, step, leads) = let rest = leads_both next xs ys c leads in (rest.0, (next, step, rest.1), rest.2)
 
