@@ -1,5 +1,5 @@
 -- What holds along every legal history.
-use Rattle.std.specs.Prelude.{◌≡◌, ◌≢◌, ℕ, ◌+◌, Bool, true, false, not, ◌&&◌, nat_eq, min, if◌then◌else◌, ◌⊎◌, List, [], ◌∷◌, ◌++◌, slice_get, option_map, All, IsTrue, Some, None}
+use Rattle.std.specs.Prelude.{◌≡◌, ◌≢◌, ℕ, ◌+◌, Bool, true, false, not, ◌&&◌, nat_eq, min, if◌then◌else◌, ◌⊎◌, List, [], ◌∷◌, ◌++◌, slice_get, option_map, map, All, IsTrue, Some, None}
 use Rattle.std.specs.List.{Contains, list_any}
 use Rattle.std.specs.declared.option.Option.{Option}
 use Rattle.std.specs.FinSet as set
@@ -47,7 +47,7 @@ use Rattle.board_model.specs.Chips.{pair_of, ioapic_of}
 use Rattle.board_model.specs.Routing.{Routing, routing_of_registry}
 use Rattle.board_model.specs.Statuses.{TargetAnswer, newly_taken, stood_already, no_effect, first_cause}
 use Rattle.board_model.specs.Plan.{Plan, done, look, put, tell, answer, choose}
-use Rattle.board_model.specs.Run.{Sending, Wishes, next_wish, later_wishes}
+use Rattle.board_model.specs.Run.{Sending, Wishes, next_wish, later_wishes, run}
 use Rattle.board_model.specs.Following.{reached}
 use Rattle.board_raise.specs.Named.{Processor, MayReach}
 use Rattle.board_raise.specs.Send.{is_illegal}
@@ -84,6 +84,10 @@ sendings_of (put p v rest) b ws = sendings_of rest (with_part b p v) ws
 sendings_of (tell x rest) b ws = sendings_of rest b ws
 sendings_of (answer r rest) b ws = sendings_of rest b ws
 sendings_of (choose m about g k) b ws = (b, record { heading = m; sent = g (next_wish ws) }) ∷ sendings_of (k (g (next_wish ws))) b (later_wishes ws)
+
+-- they are those that the log of the run shows, in order: none is left out
+abbrev pub SendingsAreLogged : Type 0 → Type 0
+SendingsAreLogged A = (m : Plan A) (b : Board) (ws : Wishes) → map (λ (made : Board × Sending). made.1) (sendings_of m b ws) ≡ (run m b ws).log.sendings
 
 -- whether a reply takes the request of a message: its vector, or an NMI
 abbrev pub takes_by : Message → Reply → Bool

@@ -1,6 +1,11 @@
 //! The laws of legal histories: functions with no body, the contract of each being a law.
 
-ghost use Rattle.board_step.specs.HistoryLaws.{RequestsStayPending, EachAcknowledgeResamplesOnce, NoSignalOfDeassignedTrigger, TicksAreConserved, TicksInjectFree, OtherInjectionsFollowAcknowledges};
+ghost use Rattle.board_step.specs.HistoryLaws.{SendingsAreLogged, RequestsStayPending, EachAcknowledgeResamplesOnce, NoSignalOfDeassignedTrigger, TicksAreConserved, TicksInjectFree, OtherInjectionsFollowAcknowledges};
+
+/// A law: the sendings of a run that the next law speaks of are those that its log shows, in order.
+pub fn sendings_are_logged<A>()
+    ensures { SendingsAreLogged A }
+{}
 
 /// A law: in a legal history each sending reaches a set of processors that it may reach, and each of these has the request
 /// from then on, until it takes it by `Ack`.

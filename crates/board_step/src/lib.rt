@@ -13,8 +13,8 @@ mod typed;
 
 pub use histories::{
     each_acknowledge_resamples_once, no_signal_of_deassigned_trigger,
-    other_injections_follow_acknowledges, requests_stay_pending, ticks_are_conserved,
-    ticks_inject_free,
+    other_injections_follow_acknowledges, requests_stay_pending, sendings_are_logged,
+    ticks_are_conserved, ticks_inject_free,
 };
 pub use laws::{
     always_answers, answers_once, board_after_is_reached, calls_steadily, leads_to_one,
