@@ -1,13 +1,14 @@
 -- What holds along every legal history.
-use Rattle.std.specs.Prelude.{◌≡◌, ◌≢◌, ℕ, ◌+◌, Bool, true, false, not, ◌&&◌, nat_eq, min, if◌then◌else◌, ◌⊎◌, List, [], ◌∷◌, ◌++◌, slice_get, option_map, map, All, IsTrue, Some, None}
+use Rattle.std.specs.Prelude.{◌≡◌, ◌≢◌, ℕ, ◌+◌, Bool, true, false, not, ◌&&◌, ◌||◌, nat_eq, min, if◌then◌else◌, ◌⊎◌, List, [], ◌∷◌, ◌++◌, slice_get, option_map, map, All, IsTrue, Some, None}
 use Rattle.std.specs.List.{Contains, list_any}
 use Rattle.std.specs.declared.option.Option.{Option}
 use Rattle.std.specs.FinSet as set
 use Rattle.irq_bits.specs.Members.{Numbers}
 use Rattle.irq_base.specs.declared.call.Call.{Call}
-use Rattle.irq_base.specs.declared.call.Call.TheVariants.{Line, Msi, Write, Assign, Deassign, Tick, TickMode, Ack}
+use Rattle.irq_base.specs.declared.call.Call.TheVariants.{Line, Msi, Write, Assign, Deassign, Tick, TickMode, PortOut, Store, Ack}
 use Rattle.irq_base.specs.declared.call.Caller.{Caller}
 use Rattle.irq_base.specs.declared.call.Caller.TheVariants.{Device, Cpu}
+use Rattle.irq_base.specs.declared.call.Space.TheVariants as spaces
 use Rattle.irq_base.specs.declared.event.Event.{Event}
 use Rattle.irq_base.specs.declared.event.Event.TheVariants.{Acked, Resampled, Watched, Rang, Injected}
 use Rattle.irq_base.specs.declared.event.Pin.{Pin}
@@ -28,7 +29,7 @@ use Rattle.irq_base.specs.declared.status.Cause.TheVariants.{Masked, NoProcessor
 use Rattle.irq_base.specs.declared.status.Status.{Status}
 use Rattle.irq_base.specs.declared.status.Status.TheVariants.{Coalesced, Ignored}
 use Rattle.pic_8259a.specs.declared.chip.PinOutcome.TheVariants as outcomes
-use Rattle.pic_8259a.specs.Pair.{pin_outcome}
+use Rattle.pic_8259a.specs.Pair.{pin_outcome, is_port}
 use Rattle.ioapic_82093aa.specs.declared.ioapic.Raise.{Raise}
 use Rattle.ioapic_82093aa.specs.declared.ioapic.Raise.TheVariants as raises
 use Rattle.ioapic_82093aa.specs.Pins.{raise_of}
@@ -37,6 +38,7 @@ use Rattle.msi_decode.specs.Messages.{message_in}
 use Rattle.source_levels.specs.Holds.{Holds, hold}
 use Rattle.event_counter.specs.Counters.{signalled_all}
 use Rattle.irqfd_set.specs.Rows.{has_resampler}
+use Rattle.ioevent_set.specs.Rows.{rung_by}
 use Rattle.ack_notifiers.specs.Rows.{watch_events}
 use Rattle.resampler.specs.Resample.{resample_events}
 use Rattle.route_table.specs.Pins.{gsi_of}
@@ -53,6 +55,7 @@ use Rattle.board_raise.specs.Named.{Processor, MayReach}
 use Rattle.board_raise.specs.Send.{is_illegal}
 use Rattle.board_raise.specs.Signal.{pic_answer}
 use Rattle.board_raise.specs.Laws.{named_on, has_request_on}
+use Rattle.board_step.specs.Refusals.{is_ioapic_address, is_lapic_address}
 use Rattle.board_step.specs.Step.{plan_on, Step}
 use Rattle.board_step.specs.History.{opening, Leads, wishes_shown, next_board, board_after}
 
@@ -306,11 +309,31 @@ pub record SignalsNothing (counter : ℕ) (b : Board) (e : Entry) (c : Board) : 
   pub reply : (e.reply ≡ Done) ⊎ ((refusal : Refusal) × (e.reply ≡ Refused refusal))
   pub changes : ChangesCountAlone counter b c
 
--- from the end of an irqfd to the next of its trigger, a write of its counter tells no event and signals nothing, and a guest
--- write that rings it tells that alone
+-- the counter that a guest write rings: that of the ioeventfd which it fits, where it is to no chip
+abbrev pub rung_on : Board → Call → Option ℕ
+rung_on b (PortOut port len value) = if is_port port then None else rung_by b.registry.ioevents spaces.Port port len value
+rung_on b (Store address len value) = if is_ioapic_address address || is_lapic_address address then None else rung_by b.registry.ioevents spaces.Memory address len value
+rung_on b _ = None
+
+-- a call that is refused: it tells no event, and changes nothing but the count of calls
+pub record IsRefusedAlone (b : Board) (e : Entry) (c : Board) : Type 0 where
+  pub refusal : Refusal
+  pub reply : e.reply ≡ Refused refusal
+  pub events : e.events ≡ []
+  pub board : c ≡ record b { length = b.length + 1 }
+
+-- a guest write that rings a counter and signals nothing: it tells that alone, and changes the count of that counter alone
+pub record RingsAlone (counter : ℕ) (b : Board) (e : Entry) (c : Board) : Type 0 where
+  pub reply : e.reply ≡ Done
+  pub events : e.events ≡ Rang counter ∷ []
+  pub changes : ChangesCountAlone counter b c
+
+-- from the end of an irqfd to the next of its trigger, a write of its counter tells no event and signals nothing; a guest
+-- write that rings it is refused, or rings and signals nothing; and no other call tells that it rang
 pub record SignalsNoMore (counter : ℕ) (b : Board) (e : Entry) (c : Board) : Type 0 where
   pub written : (n : ℕ) → e.call ≡ Write counter n → (e.events ≡ []) × SignalsNothing counter b e c
-  pub rung : Contains e.events (Rang counter) → (e.events ≡ Rang counter ∷ []) × SignalsNothing counter b e c
+  pub rung : rung_on b e.call ≡ Some counter → IsRefusedAlone b e c ⊎ RingsAlone counter b e c
+  pub told : Contains e.events (Rang counter) → rung_on b e.call ≡ Some counter
 
 -- so it is in each legal history
 abbrev pub NoSignalOfDeassignedTrigger : Type 0
