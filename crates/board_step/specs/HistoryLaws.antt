@@ -1,4 +1,4 @@
--- What holds along every legal history.
+-- What holds along every legal history (over this board's own definitions).
 use Rattle.std.specs.Prelude.{◌≡◌, ◌≢◌, ℕ, ◌+◌, Bool, true, false, not, ◌&&◌, nat_eq, min, if◌then◌else◌, ◌⊎◌, List, [], ◌∷◌, ◌++◌, slice_get, option_map, All, IsTrue, Some, None}
 use Rattle.std.specs.List.{Contains, list_any}
 use Rattle.std.specs.declared.option.Option.{Option}
@@ -56,7 +56,7 @@ use Rattle.board_raise.specs.Laws.{named_on, has_request_on}
 use Rattle.board_step.specs.Step.{plan_on, Step}
 use Rattle.board_step.specs.History.{opening, Leads, wishes_shown, next_board, board_after}
 
--- a history of a board: entries, one entry, and the entries after it; the board before it and the board after it
+-- a point of a history: the entries before, one entry, and the entries after it
 pub record Point (shape : Shape) : Type 0 where
   pub before : List Entry
   pub entry : Entry
