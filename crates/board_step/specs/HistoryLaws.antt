@@ -51,7 +51,7 @@ use Rattle.board_model.specs.Following.{reached}
 use Rattle.board_raise.specs.Named.{Processor, MayReach}
 use Rattle.board_raise.specs.Send.{is_illegal}
 use Rattle.board_raise.specs.Signal.{pic_answer}
-use Rattle.board_raise.specs.Laws.{named_on, has_request_on}
+use Rattle.board_raise.specs.Laws.{named_on, HasProcessors, has_request_on}
 use Rattle.board_step.specs.Step.{plan_on, Step}
 use Rattle.board_step.specs.History.{opening, Leads, wishes_shown, next_board, board_after}
 
@@ -219,9 +219,9 @@ pub record ChangesNoRequest (b : Board) (e : Entry) (c : Board) (status : Status
   pub said : IsSaidOf b targets status
   pub requests : SameRequests b c
 
--- so it is in each step
+-- so it is in each step from a board on which each processor has a local APIC with its number
 abbrev pub CoalescedAndIgnoredChangeNoRequest : Type 0
-CoalescedAndIgnoredChangeNoRequest = (b : Board) (e : Entry) (c : Board) (status : Status) → Step b e c → e.reply ≡ Signal status → is_without_effect status ≡ true → ChangesNoRequest b e c status
+CoalescedAndIgnoredChangeNoRequest = (b : Board) (e : Entry) (c : Board) (status : Status) → HasProcessors b b.shape.cpus → Step b e c → e.reply ≡ Signal status → is_without_effect status ≡ true → ChangesNoRequest b e c status
 
 -- ---- each acknowledge resamples once, in order
 

@@ -5,11 +5,13 @@
 //! of every step: `Laws`.
 #![tactic(auto)]
 
+mod histories;
 mod laws;
 mod reach;
 mod sound;
 mod typed;
 
+pub use histories::coalesced_and_ignored_change_no_request;
 pub use laws::{
     always_answers, answers_once, board_after_is_reached, calls_steadily, leads_to_one,
     refused_rightly, refuses_first, words_stay,
