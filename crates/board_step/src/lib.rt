@@ -11,7 +11,10 @@ mod reach;
 mod sound;
 mod typed;
 
-pub use histories::coalesced_and_ignored_change_no_request;
+pub use histories::{
+    coalesced_and_ignored_change_no_request, lapics_stay_in_place,
+    statuses_without_effect_change_no_request,
+};
 pub use laws::{
     always_answers, answers_once, board_after_is_reached, calls_steadily, leads_to_one,
     refused_rightly, refuses_first, words_stay,
