@@ -18,7 +18,7 @@ is_held p Pic = is_some p.pic
 is_held p Ioapic = is_some p.ioapic
 is_held p (Lapic n) = is_some (apic_in p.lapics n)
 
-is_some-map : {A B : Type 0} (f : A → B) (o : Option A) → is_some (option_map f o) ≡ is_some o
+pub is_some-map : {A B : Type 0} (f : A → B) (o : Option A) → is_some (option_map f o) ≡ is_some o
 is_some-map f None = refl
 is_some-map f (Some x) = refl
 

@@ -1,6 +1,6 @@
 -- The status of a sending tells what its plan gives.
 use Rattle.std.proofs.Common.{◌≡◌, ℕ, zero, suc, true, false, not, nat_eq, nat_lt, if◌then◌else◌, List, [], ◌∷◌, ◌++◌, length, slice_set, Some, None, Ok, Err, refl, sym, ap, subst, ◌∙◌, arith}
-use Rattle.std.specs.Prelude.{Result, IfSome, option_map}
+use Rattle.std.specs.Prelude.{Result, IfSome, is_some, option_map}
 use Rattle.std.specs.declared.option.Option.{Option}
 use Rattle.std.specs.FinSet as set
 use Rattle.std.specs.Ordering.{nat_cmp}
@@ -10,7 +10,7 @@ use Rattle.irq_base.specs.declared.reply.Reply.TheVariants.{Signal}
 use Rattle.irq_base.specs.declared.message.Message.{Message}
 use Rattle.irq_base.specs.declared.shape.Shape.{Shape}
 use Rattle.irq_base.specs.declared.shape.Part.{Part}
-use Rattle.irq_base.specs.declared.shape.Part.TheVariants.{Lapic}
+use Rattle.irq_base.specs.declared.shape.Part.TheVariants.{Registry, Counters, Tick, Pic, Ioapic, Lapic}
 use Rattle.irq_base.specs.declared.status.Cause.{Cause}
 use Rattle.irq_base.specs.declared.status.Cause.TheVariants.{NoProcessor, BadVector}
 use Rattle.irq_base.specs.declared.status.Status.{Status}
@@ -18,7 +18,7 @@ use Rattle.irq_base.specs.declared.status.Status.TheVariants.{Delivered, Coalesc
 use Rattle.lapic.specs.declared.outcome.Shorthand.{Shorthand}
 use Rattle.lapic.specs.Registers.{LocalApic, is_enabled}
 use Rattle.lapic.specs.Messages.{is_nmi, is_taken, accepted, with_error, with_request}
-use Rattle.board_model.specs.Hand.{Parts}
+use Rattle.board_model.specs.Hand.{Parts, part_in}
 use Rattle.board_model.specs.Statuses.{Sent, TargetAnswer, newly_taken, stood_already, is_empty, message_answer, sets_of, status_of, status_sent}
 use Rattle.board_model.specs.Plan.{Heading, About, injected, resent, ipi, the_reply, events_of, answers_of}
 use Rattle.board_model.specs.Run.{Wishes, OnParts, gives, silence, sending, run_on, next_wish, later_wishes}
@@ -31,6 +31,7 @@ use Rattle.board_raise.specs.Named.{numbers_of}
 use Rattle.board_raise.specs.Send.{ignore, reached_by, is_illegal, send}
 use Rattle.board_raise.specs.OnRow.{Row, apic_in, first_missing, accepted_at, accepted_by, named_in, sent_in}
 use Rattle.board_raise.specs.Told.{heading_of, status_told, answer_in, shown_with, events_told, answers_told, sendings_told, IsOfMessage, Tells}
+use Rattle.board_raise.proofs.InHand.{is_some-map}
 use Rattle.board_raise.proofs.OnHand.{with_row, send-lacking, send-nobody, send-illegal, send-delivered}
 
 -- ---- what a status tells
@@ -202,10 +203,19 @@ stays-each message takers (n ∷ ns) row =
     ] in
     stays-both row _ _ first (stays-each message takers ns (if set.contains takers n then accepted_at n (apic_in row n) message row else row))
 
+-- the same parts are in hand with a row of the same numbers
+held-row : (p : code.Parts) (row : Row) → ((n : ℕ) → number_in row n ≡ number_in p.lapics n) → (part : Part) → is_some (part_in (parts_of (record p { lapics = row })) part) ≡ is_some (part_in (parts_of p) part)
+held-row p row same Registry = refl
+held-row p row same Counters = refl
+held-row p row same Tick = refl
+held-row p row same Pic = refl
+held-row p row same Ioapic = refl
+held-row p row same (Lapic n) = sym (is_some-map (λ (a : LocalApic). a.number) (apic_in row n)) ∙ ap is_some (same n) ∙ is_some-map (λ (a : LocalApic). a.number) (apic_in p.lapics n)
+
 pub only_apics : (message : Message) (takers : Numbers) (ns : List ℕ) (p : code.Parts) → OnlyApicsChange p (record p { lapics = accepted_by message takers ns p.lapics })
 only_apics message takers ns p =
     let each = stays-each message takers ns p.lapics in
-    record { others = refl; places = each.places; numbers = each.numbers }
+    record { held = held-row p (accepted_by message takers ns p.lapics) each.numbers; others = refl; places = each.places; numbers = each.numbers }
 
 same_number : (n : ℕ) (x y : Option LocalApic) → option_map (λ (a : LocalApic). a.number) x ≡ option_map (λ (a : LocalApic). a.number) y → IfSome y (λ a. a.number ≡ n) → IfSome x (λ a. a.number ≡ n)
 same_number n None y h is = tt

@@ -1,9 +1,10 @@
 -- The parts in hand that the code has, as parts of the model.
-use Rattle.std.specs.Prelude.{◌≡◌, ℕ, length, option_map}
+use Rattle.std.specs.Prelude.{◌≡◌, ℕ, length, is_some, option_map}
 use Rattle.std.specs.declared.option.Option.{Option}
+use Rattle.irq_base.specs.declared.shape.Part.{Part}
 use Rattle.board_model.specs.Registry.{RegistryPart}
 use Rattle.board_model.specs.Chips.{PicPart, without_pins, IoapicPart}
-use Rattle.board_model.specs.Hand.{Parts}
+use Rattle.board_model.specs.Hand.{Parts, part_in}
 use Rattle.board_raise.specs.declared.parts.RegistryPart as registry
 use Rattle.board_raise.specs.declared.parts.PicPart as pic
 use Rattle.board_raise.specs.declared.parts.IoPart as ioapic
@@ -47,8 +48,9 @@ chips_of p = record {
 abbrev pub number_in : Row → ℕ → Option ℕ
 number_in row n = option_map (λ apic. apic.number) (apic_in row n)
 
--- only local APICs change: each stands where one stood, and has its number
+-- only local APICs change: the same parts are in hand, each local APIC stands where one stood, and has its number
 pub record OnlyApicsChange (old new : parts.Parts) : Type 0 where
+  pub held : (part : Part) → is_some (part_in (parts_of new) part) ≡ is_some (part_in (parts_of old) part)
   pub others : new ≡ record old { lapics = new.lapics }
   pub places : length new.lapics ≡ length old.lapics
   pub numbers : (n : ℕ) → number_in new.lapics n ≡ number_in old.lapics n

@@ -2,4 +2,6 @@
 #![tactic(auto)]
 
 #[cfg(test)]
+mod rig;
+#[cfg(test)]
 mod sendings;

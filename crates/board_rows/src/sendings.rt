@@ -19,11 +19,14 @@ use std::test::Fail;
 
 /// The registers of a local APIC that is enabled.
 #[derive(Clone, Copy)]
-struct Setup {
+pub struct Setup {
     ldr: u32,
     dfr: u32,
     tpr: u32,
 }
+
+/// The GSI of ticks.
+pub const TICK: u16 = 3;
 
 /// Flat destinations: processor n has bit n of its logical identity.
 const FLAT: u32 = 0xffff_ffff;
@@ -95,7 +98,6 @@ fn fill(row: &mut LapicRow, setups: &[Setup])
 /// The published words at power-on.
 fn opening_words(alloc: Global) -> Result<Words, NoMemory> {
     let table = Table::power_on(alloc)?;
-    table.keeps_the_rules();
     let irqfds = Irqfds::power_on(alloc)?;
     let watches = Watches::power_on(alloc)?;
     let ioevents = IoEvents::power_on(alloc)?;
@@ -105,11 +107,11 @@ fn opening_words(alloc: Global) -> Result<Words, NoMemory> {
         watches,
         ioevents,
     };
-    Ok(Words::of(registry, 0))
+    Ok(Words::of(registry, TICK))
 }
 
-/// A board of these processors, which is to choose that processor first where it may choose.
-fn board(alloc: Global, setups: &[Setup], wish: Option<CpuSet>) -> Result<OneBoard, NoMemory>
+/// A board of these processors, with its words at power-on and no other part in hand.
+pub fn board(alloc: Global, setups: &[Setup]) -> Result<OneBoard, NoMemory>
     requires few { length setups.now ≤ 64 }
     ensures { IfOk result (λ board. length board.parts.lapics ≡ length setups.now) }
 {
@@ -124,7 +126,7 @@ fn board(alloc: Global, setups: &[Setup], wish: Option<CpuSet>) -> Result<OneBoa
         ioapic: None,
         lapics,
     };
-    Ok(OneBoard::new(parts, words, wish))
+    Ok(OneBoard::new(parts, words))
 }
 
 /// Whether a message is sent with that status.
@@ -146,7 +148,7 @@ fn is_sent(
 }
 
 /// Takes the local APIC out of the row, where it is there.
-fn take(row: &mut LapicRow, n: u16) -> Option<Lapic>
+pub fn take(row: &mut LapicRow, n: u16) -> Option<Lapic>
     ensures { length row.new ≡ length row.old }
 {
     if (n as usize) < row.len() {
@@ -257,7 +259,7 @@ fn first_wrong(board: &mut OneBoard, cpus: u16, steps: &[Step]) -> Option<usize>
 }
 
 /// A processor of the flat model.
-fn flat(ldr: u32, tpr: u32) -> Setup {
+pub fn flat(ldr: u32, tpr: u32) -> Setup {
     Setup {
         ldr,
         dfr: FLAT,
@@ -274,7 +276,7 @@ fn flat_destinations(rt: HostRuntime) -> Result<(), Fail> {
         flat(0x0400_0000, 0),
         flat(0x0800_0000, 0),
     ];
-    let mut four = board(rt.alloc(), &setups, None)?;
+    let mut four = board(rt.alloc(), &setups)?;
     let steps = [
         Msi(0xfee0_0000, 0x61, delivered(0b1, 0)),
         Msi(0xfee0_3004, 0x61, delivered(0b10, 0b1)),
@@ -299,7 +301,7 @@ fn lowest_priority(rt: HostRuntime) -> Result<(), Fail> {
         flat(0x0200_0000, 0x10),
         flat(0x0400_0000, 0x30),
     ];
-    let mut three = board(rt.alloc(), &setups, None)?;
+    let mut three = board(rt.alloc(), &setups)?;
     let steps = [
         Msi(0xfee0_7004, 0x162, delivered(0b10, 0)),
         Msi(0xfee0_7004, 0x162, coalesced(0b10)),
@@ -322,7 +324,8 @@ fn ties_are_wished_for(rt: HostRuntime) -> Result<(), Fail> {
         flat(0x0200_0000, 0x10),
         flat(0x0400_0000, 0x10),
     ];
-    let mut three = board(rt.alloc(), &setups, Some(set(0b101)))?;
+    let mut three = board(rt.alloc(), &setups)?;
+    three.wish_for(set(0b101));
     let steps = [
         Msi(0xfee0_7004, 0x162, delivered(0b100, 0)),
         Msi(0xfee0_7004, 0x162, delivered(0b10, 0)),
@@ -346,7 +349,7 @@ fn cluster_destinations(rt: HostRuntime) -> Result<(), Fail> {
             tpr: 0,
         },
     ];
-    let mut two = board(rt.alloc(), &setups, None)?;
+    let mut two = board(rt.alloc(), &setups)?;
     let steps = [
         Msi(0xfee1_1004, 0x63, delivered(0b1, 0)),
         Msi(0xfee2_1004, 0x63, delivered(0b10, 0)),
@@ -361,7 +364,7 @@ fn cluster_destinations(rt: HostRuntime) -> Result<(), Fail> {
 #[test]
 fn interprocessor_interrupts(rt: HostRuntime) -> Result<(), Fail> {
     let setups = [flat(0, 0), flat(0, 0)];
-    let mut two = board(rt.alloc(), &setups, None)?;
+    let mut two = board(rt.alloc(), &setups)?;
     let steps = [
         Icr(0, 0x0100_0000, 0x0000_0044, delivered(0b10, 0)),
         Give(1, Some(0x44)),
@@ -386,7 +389,7 @@ fn interprocessor_interrupts(rt: HostRuntime) -> Result<(), Fail> {
 #[test]
 fn lacking_processors(rt: HostRuntime) -> Result<(), Fail> {
     let setups = [flat(0x0100_0000, 0), flat(0x0200_0000, 0)];
-    let mut two = board(rt.alloc(), &setups, None)?;
+    let mut two = board(rt.alloc(), &setups)?;
     let message = Message {
         mode: Mode::Fixed,
         logical: false,

@@ -17,10 +17,10 @@ use Rattle.irq_base.specs.declared.shape.Part.TheVariants.{Lapic}
 use Rattle.irq_base.specs.declared.status.Cause.TheVariants.{Masked}
 use Rattle.irq_base.specs.declared.status.Status.{Status}
 use Rattle.irq_base.specs.declared.status.Status.TheVariants.{Lowered}
-use Rattle.pic_8259a.specs.Pair.{pin_outcome}
 use Rattle.ioapic_82093aa.specs.declared.ioapic.Raise.{Raise}
 use Rattle.ioapic_82093aa.specs.declared.ioapic.Raise.TheVariants as raises
 use Rattle.ioapic_82093aa.specs.Pins.{raise_of}
+use Rattle.pic_8259a.specs.Pair.{pin_outcome}
 use Rattle.msi_decode.specs.Messages.{message_in}
 use Rattle.tick_reinject.specs.declared.state.TickState.{TickState}
 use Rattle.tick_reinject.specs.Ticks.{ticked, tick_injects, tick_injected}
@@ -34,13 +34,13 @@ use Rattle.board_model.specs.Run.{Wishes, Outcome, run}
 use Rattle.board_raise.specs.Send.{send}
 use Rattle.board_raise.specs.Signal.{pic_raised, pic_answer, ioapic_raised, is_accepted, accept_pin, ioapic_answered, raise_other, raise, let_go_pic, let_go_ioapic, let_go, let_go_after, lowered_status, lower, inject}
 use Rattle.board_raise.specs.Laws.{HasProcessors}
-use Rattle.board_step.specs.Refusals.{range_reasons}
+use Rattle.board_step.specs.Refusals.{range_reasons, write_reasons}
 use Rattle.board_step.specs.Registrations.{unless_refused, source_of, trigger_written, write}
 use Rattle.board_step.specs.Ticks.{tick_or_hold}
 use Rattle.board_step.specs.Calls.{number_of, plan_in_range}
 use Rattle.board_step.specs.Step.{plan_on, outcome_of, with_counts, would_publish}
 use Rattle.board_step.specs.HistoryLaws.{message_target, signal_targets, message_raised, pic_answer_on, raise_answer_on, IsSaidOf, is_without_effect, ChangesNoRequest, CoalescedAndIgnoredChangeNoRequest}
-use Rattle.board_step.proofs.EffectManner.{whatever, whatever_is_kept, Keeps, call_keeps, write_none_keeps, some_status, quiet_answers}
+use Rattle.board_step.proofs.EffectMute.{Mute, unless_mute, call_mute, some_status, mute_answers}
 use Rattle.board_step.proofs.EffectSends.{Spares, spares_bind, Says, says_before, says_after, shown_says, send_says}
 
 -- ---- plans that leave the requests
@@ -167,7 +167,7 @@ module _ (b : Board) (stand : HasProcessors b b.shape.cpus) where
   }
 
   write_judged : (counter count : ℕ) (trigger : Option TriggerWord) → routing.trigger counter ≡ trigger → (ws : Wishes) → Judged (calls.Write counter count) (run (write routing b.shape trigger counter count) b ws)
-  write_judged counter count None is ws = inr (quiet_answers (λ _. Unit {0}) (write routing b.shape None counter count) b ws (write_none_keeps true whatever whatever_is_kept routing b.shape counter count))
+  write_judged counter count None is ws = inr (mute_answers (write routing b.shape None counter count) b ws (λ counts. unless_mute (write_reasons counts counter count) _ (refl, tt)))
   write_judged counter count (Some trigger) is ws = elim (nat_eq count 0) as (λ t. Judged (calls.Write counter count) (run (if t then reply Done else trigger_written routing b.shape trigger) b ws)) [
     | true ↦ inr refl
     | false ↦ inl (record {
@@ -187,30 +187,30 @@ module _ (b : Board) (stand : HasProcessors b b.shape.cpus) where
   })
   tick_judged false ws = inr refl
 
-  quiet_judged : (n : ℕ) (call : Call) (ws : Wishes) → Keeps true whatever (plan_in_range routing b.shape n call) → Judged call (run (plan_in_range routing b.shape n call) b ws)
-  quiet_judged n call ws h = inr (quiet_answers (λ _. Unit {0}) (plan_in_range routing b.shape n call) b ws h)
+  mute_judged : (n : ℕ) (call : Call) (ws : Wishes) → Mute (plan_in_range routing b.shape n call) → Judged call (run (plan_in_range routing b.shape n call) b ws)
+  mute_judged n call ws h = inr (mute_answers (plan_in_range routing b.shape n call) b ws h)
 
   range_judged : (n : ℕ) (call : Call) (ws : Wishes) → Judged call (run (plan_in_range routing b.shape n call) b ws)
   range_judged n (calls.Line gsi line high) ws = inl (line_judged gsi line high n ws)
   range_judged n (calls.Msi address payload) ws = inl (message_judged address payload n ws)
   range_judged n (calls.Write counter count) ws = write_judged counter count (routing.trigger counter) refl ws
   range_judged n calls.Tick ws = tick_judged (tick_injects b.tick) ws
-  range_judged n (calls.Take counter) ws = quiet_judged n (calls.Take counter) ws (call_keeps true whatever whatever_is_kept routing b.shape n (calls.Take counter) refl)
-  range_judged n (calls.Assign trigger gsi resample) ws = quiet_judged n (calls.Assign trigger gsi resample) ws (call_keeps true whatever whatever_is_kept routing b.shape n (calls.Assign trigger gsi resample) refl)
-  range_judged n (calls.Deassign trigger gsi) ws = quiet_judged n (calls.Deassign trigger gsi) ws (call_keeps true whatever whatever_is_kept routing b.shape n (calls.Deassign trigger gsi) refl)
-  range_judged n (calls.Reroute rows) ws = quiet_judged n (calls.Reroute rows) ws (call_keeps true whatever whatever_is_kept routing b.shape n (calls.Reroute rows) refl)
-  range_judged n (calls.Attach space address len counter want) ws = quiet_judged n (calls.Attach space address len counter want) ws (call_keeps true whatever whatever_is_kept routing b.shape n (calls.Attach space address len counter want) refl)
-  range_judged n (calls.Detach space address len counter want) ws = quiet_judged n (calls.Detach space address len counter want) ws (call_keeps true whatever whatever_is_kept routing b.shape n (calls.Detach space address len counter want) refl)
-  range_judged n (calls.Watch counter gsi) ws = quiet_judged n (calls.Watch counter gsi) ws (call_keeps true whatever whatever_is_kept routing b.shape n (calls.Watch counter gsi) refl)
-  range_judged n (calls.Unwatch counter gsi) ws = quiet_judged n (calls.Unwatch counter gsi) ws (call_keeps true whatever whatever_is_kept routing b.shape n (calls.Unwatch counter gsi) refl)
-  range_judged n (calls.TickMode reinject) ws = quiet_judged n (calls.TickMode reinject) ws (call_keeps true whatever whatever_is_kept routing b.shape n (calls.TickMode reinject) refl)
-  range_judged n (calls.PortOut port len value) ws = quiet_judged n (calls.PortOut port len value) ws (call_keeps true whatever whatever_is_kept routing b.shape n (calls.PortOut port len value) refl)
-  range_judged n (calls.PortIn port len) ws = quiet_judged n (calls.PortIn port len) ws (call_keeps true whatever whatever_is_kept routing b.shape n (calls.PortIn port len) refl)
-  range_judged n (calls.Store address len value) ws = quiet_judged n (calls.Store address len value) ws (call_keeps true whatever whatever_is_kept routing b.shape n (calls.Store address len value) refl)
-  range_judged n (calls.Load address len) ws = quiet_judged n (calls.Load address len) ws (call_keeps true whatever whatever_is_kept routing b.shape n (calls.Load address len) refl)
-  range_judged n calls.Ack ws = quiet_judged n calls.Ack ws (call_keeps true whatever whatever_is_kept routing b.shape n calls.Ack refl)
-  range_judged n calls.Inta ws = quiet_judged n calls.Inta ws (call_keeps true whatever whatever_is_kept routing b.shape n calls.Inta refl)
-  range_judged n calls.Eoi ws = quiet_judged n calls.Eoi ws (call_keeps true whatever whatever_is_kept routing b.shape n calls.Eoi refl)
+  range_judged n (calls.Take counter) ws = mute_judged n (calls.Take counter) ws (call_mute routing b.shape n (calls.Take counter) refl)
+  range_judged n (calls.Assign trigger gsi resample) ws = mute_judged n (calls.Assign trigger gsi resample) ws (call_mute routing b.shape n (calls.Assign trigger gsi resample) refl)
+  range_judged n (calls.Deassign trigger gsi) ws = mute_judged n (calls.Deassign trigger gsi) ws (call_mute routing b.shape n (calls.Deassign trigger gsi) refl)
+  range_judged n (calls.Reroute rows) ws = mute_judged n (calls.Reroute rows) ws (call_mute routing b.shape n (calls.Reroute rows) refl)
+  range_judged n (calls.Attach space address len counter want) ws = mute_judged n (calls.Attach space address len counter want) ws (call_mute routing b.shape n (calls.Attach space address len counter want) refl)
+  range_judged n (calls.Detach space address len counter want) ws = mute_judged n (calls.Detach space address len counter want) ws (call_mute routing b.shape n (calls.Detach space address len counter want) refl)
+  range_judged n (calls.Watch counter gsi) ws = mute_judged n (calls.Watch counter gsi) ws (call_mute routing b.shape n (calls.Watch counter gsi) refl)
+  range_judged n (calls.Unwatch counter gsi) ws = mute_judged n (calls.Unwatch counter gsi) ws (call_mute routing b.shape n (calls.Unwatch counter gsi) refl)
+  range_judged n (calls.TickMode reinject) ws = mute_judged n (calls.TickMode reinject) ws (call_mute routing b.shape n (calls.TickMode reinject) refl)
+  range_judged n (calls.PortOut port len value) ws = mute_judged n (calls.PortOut port len value) ws (call_mute routing b.shape n (calls.PortOut port len value) refl)
+  range_judged n (calls.PortIn port len) ws = mute_judged n (calls.PortIn port len) ws (call_mute routing b.shape n (calls.PortIn port len) refl)
+  range_judged n (calls.Store address len value) ws = mute_judged n (calls.Store address len value) ws (call_mute routing b.shape n (calls.Store address len value) refl)
+  range_judged n (calls.Load address len) ws = mute_judged n (calls.Load address len) ws (call_mute routing b.shape n (calls.Load address len) refl)
+  range_judged n calls.Ack ws = mute_judged n calls.Ack ws (call_mute routing b.shape n calls.Ack refl)
+  range_judged n calls.Inta ws = mute_judged n calls.Inta ws (call_mute routing b.shape n calls.Inta refl)
+  range_judged n calls.Eoi ws = mute_judged n calls.Eoi ws (call_mute routing b.shape n calls.Eoi refl)
 
   call_judged : (caller : Caller) (call : Call) (ws : Wishes) → Judged call (run (plan_on b caller call) b ws)
   call_judged caller call ws = of_refusal (first_of (range_reasons b.shape call))

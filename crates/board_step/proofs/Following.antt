@@ -24,7 +24,7 @@ pub calls_steadily : (b : Board) (caller : Caller) (call : Call) → IsSteady (p
 calls_steadily b caller call = steady_of (free call) (plan_on b caller call) (keeps_free b caller call)
 
 -- the wishes that an entry of a step shows are those of its sendings
-wishes_are : (b : Board) (e : Entry) (c : Board) (s : Step b e c) → wishes_shown e ≡ shown_wishes (outcome_of b e s.wishes).log.sendings
+pub wishes_are : (b : Board) (e : Entry) (c : Board) (s : Step b e c) → wishes_shown e ≡ shown_wishes (outcome_of b e s.wishes).log.sendings
 wishes_are b e c s =
     ap (λ l. wishes_told e.events ++ l) (sym (append-nil (wish_replied e.reply)))
     ∙ ap (λ l. wishes_told l ++ wishes_replied (e.reply ∷ [])) (sym s.told)

@@ -77,15 +77,15 @@ write_length io offset value =
       ]
     ]
 
-service_number : (a : LocalApic) (vector : Option ℕ) → (without_service a vector).number ≡ a.number
+pub service_number : (a : LocalApic) (vector : Option ℕ) → (without_service a vector).number ≡ a.number
 service_number a None = refl
 service_number a (Some vector) = refl
 
-given_number : (a : LocalApic) (vector : Option ℕ) → (given a vector).number ≡ a.number
+pub given_number : (a : LocalApic) (vector : Option ℕ) → (given a vector).number ≡ a.number
 given_number a None = refl
 given_number a (Some vector) = refl
 
-store_number : (a : LocalApic) (offset value : ℕ) → (store_to a offset value).number ≡ a.number
+pub store_number : (a : LocalApic) (offset value : ℕ) → (store_to a offset value).number ≡ a.number
 store_number a offset value =
     elim (register_at offset) as (λ o. (stored_at a o value).number ≡ a.number) [
       | None ↦ refl

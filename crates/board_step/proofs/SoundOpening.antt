@@ -25,7 +25,7 @@ use Rattle.board_step.specs.Laws.{OpeningIsSound}
 use Rattle.board_step.proofs.SoundTable.{opening_table}
 
 -- local APICs whose numbers go up by one from a first
-abbrev Numbered : ℕ → List LocalApic → Type 0
+abbrev pub Numbered : ℕ → List LocalApic → Type 0
 Numbered first [] = Unit {0}
 Numbered first (a ∷ more) = (a.number ≡ first) × Numbered (suc first) more
 
@@ -33,7 +33,7 @@ one_more : (first : ℕ) (apics : List LocalApic) (a : LocalApic) → Numbered f
 one_more first [] a each e = (omega (arith, e), tt)
 one_more first (x ∷ xs) a each e = (each.0, one_more (suc first) xs a each.1 (omega (arith, e)))
 
-number_at : (first : ℕ) (apics : List LocalApic) (n : ℕ) (d : LocalApic) → Numbered first apics → d.number ≡ first + n → (unwrap_or (slice_get apics n) d).number ≡ first + n
+pub number_at : (first : ℕ) (apics : List LocalApic) (n : ℕ) (d : LocalApic) → Numbered first apics → d.number ≡ first + n → (unwrap_or (slice_get apics n) d).number ≡ first + n
 number_at first [] n d each e = e
 number_at first (x ∷ xs) zero d each e = omega (arith, each.0)
 number_at first (x ∷ xs) (suc n) d each e = let rest : (unwrap_or (slice_get xs n) d).number ≡ suc first + n = number_at (suc first) xs n d each.1 (omega (arith, e)) in omega (arith, rest)
@@ -42,14 +42,14 @@ mapped : (ns : List ℕ) (n : ℕ) → map power_on (ns ++ n ∷ []) ≡ map pow
 mapped [] n = refl
 mapped (k ∷ ks) n = ap (λ l. power_on k ∷ l) (mapped ks n)
 
-apics_many : (k : ℕ) → length (map power_on (numbers_below k)) ≡ k
+pub apics_many : (k : ℕ) → length (map power_on (numbers_below k)) ≡ k
 apics_many zero = refl
 apics_many (suc k) = ap length (mapped (numbers_below k) k) ∙ length-append (map power_on (numbers_below k)) (power_on k ∷ []) ∙ one (length (map power_on (numbers_below k))) (apics_many k)
   where
     one : (n : ℕ) → n ≡ k → n + 1 ≡ suc k
     one n e = omega arith
 
-apics_numbered : (k : ℕ) → Numbered 0 (map power_on (numbers_below k))
+pub apics_numbered : (k : ℕ) → Numbered 0 (map power_on (numbers_below k))
 apics_numbered zero = tt
 apics_numbered (suc k) = subst (Numbered 0) (sym (mapped (numbers_below k) k)) (one_more 0 (map power_on (numbers_below k)) (power_on k) (apics_numbered k) (last (length (map power_on (numbers_below k))) (apics_many k)))
   where

@@ -35,7 +35,7 @@ use Rattle.board_step.proofs.SoundPlans.{Minds, Keeps, minds_bind, keeps_bind, k
 use Rattle.std.proofs.Common.{length-set}
 
 -- a message leaves the number
-accepted_number : (a : LocalApic) (m : Message) → (accepted a m).number ≡ a.number
+pub accepted_number : (a : LocalApic) (m : Message) → (accepted a m).number ≡ a.number
 accepted_number a m = elim (is_nmi m.mode) as (λ t. (if t then record a { nmi = true } else if not (is_enabled a) then a else if nat_lt m.vector 16 then with_error a 6 else with_request a m).number ≡ a.number) [
   | true ↦ refl
   | false ↦ elim (is_enabled a) as (λ t. (if not t then a else if nat_lt m.vector 16 then with_error a 6 else with_request a m).number ≡ a.number) [

@@ -12,8 +12,8 @@ mod sound;
 mod typed;
 
 pub use histories::{
-    coalesced_and_ignored_change_no_request, lapics_stay_in_place,
-    statuses_without_effect_change_no_request,
+    coalesced_and_ignored_change_no_request, each_acknowledge_resamples_once, lapics_stay_in_place,
+    requests_stay_pending, statuses_without_effect_change_no_request,
 };
 pub use laws::{
     always_answers, answers_once, board_after_is_reached, calls_steadily, leads_to_one,
