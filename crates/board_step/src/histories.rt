@@ -1,6 +1,6 @@
 //! The laws of legal histories: functions with no body, the contract of each being a law.
 
-ghost use Rattle.board_step.specs.HistoryLaws.{RequestsStayPending, EachAcknowledgeResamplesOnce, CoalescedAndIgnoredChangeNoRequest, LapicsStayInPlace, StatusesWithoutEffectChangeNoRequest};
+ghost use Rattle.board_step.specs.HistoryLaws.{RequestsStayPending, EachAcknowledgeResamplesOnce, NoSignalOfDeassignedTrigger, TicksAreConserved, TicksInjectFree, OtherInjectionsFollowAcknowledges, CoalescedAndIgnoredChangeNoRequest, LapicsStayInPlace, StatusesWithoutEffectChangeNoRequest};
 
 /// A law: in a legal history each sending reaches a set of processors that it may reach, and each of these has the request
 /// from then on, until it takes it by `Ack`.
@@ -13,6 +13,32 @@ pub fn requests_stay_pending()
 #[tactic(auto, using(crate::proofs::ResamplingSteps::resamples_once))]
 pub fn each_acknowledge_resamples_once()
     ensures { EachAcknowledgeResamplesOnce }
+{}
+
+/// A law: from the end of an irqfd to the next of its trigger, a write of its counter, or a guest write that rings it, signals
+/// nothing: it tells no more than that it rang, and changes no more than the count.
+#[tactic(auto, using(crate::proofs::DeassignedSignals::no_signal_of_deassigned_trigger))]
+pub fn no_signal_of_deassigned_trigger()
+    ensures { NoSignalOfDeassignedTrigger }
+{}
+
+/// A law: from the start of reinjection on, and until the mode is set again, the ticks that fell are those that are pending
+/// and those that acknowledges took.
+#[tactic(auto, using(crate::proofs::ConservingTicks::ticks_are_conserved))]
+pub fn ticks_are_conserved()
+    ensures { TicksAreConserved }
+{}
+
+/// A law: under reinjection a tick that falls is injected only where the state was free.
+#[tactic(auto, using(crate::proofs::ConservingTicks::ticks_inject_free))]
+pub fn ticks_inject_free()
+    ensures { TicksInjectFree }
+{}
+
+/// A law: where an entry rings no ioeventfd and makes no irqfd, each injection that it tells is of the tick, after an
+/// acknowledge of the tick's GSI.
+pub fn other_injections_follow_acknowledges()
+    ensures { OtherInjectionsFollowAcknowledges }
 {}
 
 /// A law: a reply that is Coalesced or Ignored answers a call with targets, and says what stood there or the cause; every IRR

@@ -2,7 +2,7 @@
 //!
 //! Reading order of the definitions: `Refusals` (why a call is refused), `Registrations`, `Ticks`, `Processors` and `Accesses`
 //! (what each call does), `Calls` (all of them), `Step` (one call is one step), `Reach`, `Sound`, `History`, and then what holds
-//! of every step: `Laws`.
+//! of every step: `Laws`, and along every history: `HistoryLaws`.
 #![tactic(auto)]
 
 mod histories;
@@ -13,7 +13,8 @@ mod typed;
 
 pub use histories::{
     coalesced_and_ignored_change_no_request, each_acknowledge_resamples_once, lapics_stay_in_place,
-    requests_stay_pending, statuses_without_effect_change_no_request,
+    no_signal_of_deassigned_trigger, other_injections_follow_acknowledges, requests_stay_pending,
+    statuses_without_effect_change_no_request, ticks_are_conserved, ticks_inject_free,
 };
 pub use laws::{
     always_answers, answers_once, board_after_is_reached, calls_steadily, leads_to_one,

@@ -1,0 +1,336 @@
+-- What an outcome takes off the pending ticks, and which injections its events may tell; acknowledges take a tick each.
+use Rattle.std.proofs.Common.{◌≡◌, ℕ, ◌+◌, ◌-◌, Bool, true, false, not, ◌&&◌, ◌||◌, nat_eq, if◌then◌else◌, List, [], ◌∷◌, ◌++◌, map, refl, sym, ap, subst, ◌∙◌, arith, Some, None}
+use Rattle.std.specs.declared.option.Option.{Option}
+use Rattle.irq_base.specs.declared.event.Event.{Event}
+use Rattle.irq_base.specs.declared.event.Event.TheVariants.{Acked, Resampled, Watched, Rang, Injected, Resent, Ipi}
+use Rattle.irq_base.specs.declared.event.Pin.{Pin}
+use Rattle.irq_base.specs.declared.event.Pin.TheVariants as pins
+use Rattle.irq_base.specs.declared.message.Message.{Message}
+use Rattle.irq_base.specs.declared.message.Source.TheVariants.{Resample, Tick as TickSource}
+use Rattle.irq_base.specs.declared.message.Targets.{Targets}
+use Rattle.irq_base.specs.declared.shape.Part.TheVariants as parts
+use Rattle.irq_base.specs.declared.shape.Shape.{Shape}
+use Rattle.irq_base.specs.declared.status.Status.{Status}
+use Rattle.ioapic_82093aa.specs.Pins.{entry_at, acknowledged, resend_of}
+use Rattle.irqfd_set.specs.Rows.{has_resampler}
+use Rattle.resampler.specs.Resample.{resampled, resample_events}
+use Rattle.ack_notifiers.specs.Rows.{watched, watch_events}
+use Rattle.tick_reinject.specs.declared.state.TickState.{TickState}
+use Rattle.tick_reinject.specs.Ticks.{ack_injects, tick_acked, tick_injected, is_ignored}
+use Rattle.board_model.specs.Registry.{RegistryPart}
+use Rattle.board_model.specs.Routing.{Routing}
+use Rattle.board_model.specs.Chips.{ioapic_of}
+use Rattle.board_model.specs.Board.{Board, part_of, with_part}
+use Rattle.board_model.specs.Statuses.{Sent, TargetAnswer}
+use Rattle.board_model.specs.Plan.{About, injected, resent, ipi, the_reply, events_of, Plan, done, look, put, tell, answer, choose, change, ◌>>=◌, ◌>>◌}
+use Rattle.board_model.specs.Run.{Wishes, next_wish, later_wishes, Outcome, run, then_run}
+use Rattle.board_model.proofs.Lens.{part_of-with_other}
+use Rattle.board_model.proofs.Sequence.{run-bind}
+use Rattle.board_raise.specs.Send.{send}
+use Rattle.board_raise.specs.Signal.{is_accepted, accept_pin, let_go, inject}
+use Rattle.board_ack.specs.Ticks.{inject_tick, inject_next, acknowledge_tick}
+use Rattle.board_ack.specs.Acknowledge.{say_each, signal_each, resample, notify, resample_and_notify, tell_concerned, resend, clear_and_resend, end_level, end_tick, acknowledge, acknowledge_each}
+use Rattle.board_step.specs.HistoryLaws.{is_ack_of, acks_in}
+use Rattle.board_step.proofs.ConservingQuiet.{is_quiet, shows_quietly, Quiet, quiet_bind, accept_pin_quiet, send_quiet, let_go_quiet, inject_quiet}
+
+-- ---- the injections that events may tell
+
+-- whether an event may come where these GSIs may be injected
+abbrev pub allows : Bool → (ℕ → Bool) → Event → Bool
+allows rings may (Injected gsi status) = may gsi
+allows rings may (Rang counter) = rings
+allows rings may _ = true
+
+-- the GSIs that may be injected after an event: those from before, after an acknowledge of the tick's GSI that one, and all
+-- after an ioeventfd was rung
+abbrev pub may_after : ℕ → (ℕ → Bool) → Event → ℕ → Bool
+may_after tick may (Acked pin (Some gsi)) g = may g || (nat_eq gsi tick && nat_eq g tick)
+may_after tick may (Rang counter) g = true
+may_after tick may _ g = may g
+
+-- each event may come after those before it
+abbrev pub Following : ℕ → Bool → (ℕ → Bool) → List Event → Type 0
+Following tick rings may [] = Unit {0}
+Following tick rings may (event ∷ events) = (allows rings may event ≡ true) × Following tick rings (may_after tick may event) events
+
+-- the events are quiet
+abbrev AreQuiet : (ℕ → Bool) → List Event → Type 0
+AreQuiet may [] = Unit {0}
+AreQuiet may (event ∷ events) = (is_quiet may event ≡ true) × AreQuiet may events
+
+-- an outcome takes so many ticks off besides those of the acknowledges that it tells, and tells what may come
+pub record Conserves {A : Type 0} (tick : ℕ) (rings : Bool) (may : ℕ → Bool) (taken : ℕ) (b : Board) (o : Outcome A) : Type 0 where
+  pub reinjects : o.board.tick.reinjects ≡ b.tick.reinjects
+  pub pending : b.tick.reinjects ≡ true → o.board.tick.pending ≡ b.tick.pending - (taken + acks_in tick o.log.events)
+  pub follows : Following tick rings may o.log.events
+
+pub acks_append : (gsi : ℕ) (xs ys : List Event) → acks_in gsi (xs ++ ys) ≡ acks_in gsi xs + acks_in gsi ys
+acks_append gsi [] ys = omega arith
+acks_append gsi (x ∷ xs) ys = ap (λ n. is_ack_of gsi x + n) (acks_append gsi xs ys) ∙ sum (is_ack_of gsi x) (acks_in gsi xs) (acks_in gsi ys)
+  where
+    sum : (a b c : ℕ) → a + (b + c) ≡ (a + b) + c
+    sum a b c = omega arith
+
+or_more : (a b c : Bool) → (a ≡ true → b ≡ true) → (a || c) ≡ true → (b || c) ≡ true
+or_more true b c more h = ap (λ t. t || c) (more refl)
+or_more false true c more h = refl
+or_more false false c more h = h
+
+or_left : (a c : Bool) → a ≡ true → (a || c) ≡ true
+or_left true c h = refl
+or_left false c h = cc
+
+pub or_right : (a c : Bool) → c ≡ true → (a || c) ≡ true
+or_right true c h = refl
+or_right false c h = h
+
+module _ (tick : ℕ) (rings : Bool) where
+  after_more : (may more : ℕ → Bool) (event : Event) → ((g : ℕ) → may g ≡ true → more g ≡ true) → (g : ℕ) → may_after tick may event g ≡ true → may_after tick more event g ≡ true
+  after_more may more (Acked pin None) wider g h = wider g h
+  after_more may more (Acked pin (Some gsi)) wider g h = or_more (may g) (more g) (nat_eq gsi tick && nat_eq g tick) (wider g) h
+  after_more may more (Rang counter) wider g h = refl
+  after_more may more (Resampled counter) wider g h = wider g h
+  after_more may more (Watched counter) wider g h = wider g h
+  after_more may more (Injected gsi status) wider g h = wider g h
+  after_more may more (Resent pin status) wider g h = wider g h
+  after_more may more (Ipi status) wider g h = wider g h
+
+  allows_more : (may more : ℕ → Bool) (event : Event) → ((g : ℕ) → may g ≡ true → more g ≡ true) → allows rings may event ≡ true → allows rings more event ≡ true
+  allows_more may more (Acked pin gsi) wider h = refl
+  allows_more may more (Rang counter) wider h = h
+  allows_more may more (Resampled counter) wider h = refl
+  allows_more may more (Watched counter) wider h = refl
+  allows_more may more (Injected gsi status) wider h = wider gsi h
+  allows_more may more (Resent pin status) wider h = refl
+  allows_more may more (Ipi status) wider h = refl
+
+  -- what may come may come where more may be injected
+  following_more : (may more : ℕ → Bool) (events : List Event) → ((g : ℕ) → may g ≡ true → more g ≡ true) → Following tick rings may events → Following tick rings more events
+  following_more may more [] wider h = tt
+  following_more may more (x ∷ xs) wider h = (allows_more may more x wider h.0, following_more (may_after tick may x) (may_after tick more x) xs (after_more may more x wider) h.1)
+
+  after_all : (may : ℕ → Bool) (event : Event) (g : ℕ) → may g ≡ true → may_after tick may event g ≡ true
+  after_all may (Acked pin None) g h = h
+  after_all may (Acked pin (Some gsi)) g h = or_left (may g) (nat_eq gsi tick && nat_eq g tick) h
+  after_all may (Rang counter) g h = refl
+  after_all may (Resampled counter) g h = h
+  after_all may (Watched counter) g h = h
+  after_all may (Injected gsi status) g h = h
+  after_all may (Resent pin status) g h = h
+  after_all may (Ipi status) g h = h
+
+  following_append : (may : ℕ → Bool) (xs ys : List Event) → Following tick rings may xs → Following tick rings may ys → Following tick rings may (xs ++ ys)
+  following_append may [] ys h later = later
+  following_append may (x ∷ xs) ys h later = (h.0, following_append (may_after tick may x) xs ys h.1 (following_more may (may_after tick may x) ys (after_all may x) later))
+
+  -- ---- quiet plans
+
+  quiet_event : (may : ℕ → Bool) (event : Event) → is_quiet may event ≡ true → (allows rings may event ≡ true) × (is_ack_of tick event ≡ 0)
+  quiet_event may (Acked pin gsi) h = cc
+  quiet_event may (Rang counter) h = cc
+  quiet_event may (Resampled counter) h = (refl, refl)
+  quiet_event may (Watched counter) h = (refl, refl)
+  quiet_event may (Injected gsi status) h = (h, refl)
+  quiet_event may (Resent pin status) h = (refl, refl)
+  quiet_event may (Ipi status) h = (refl, refl)
+
+  quiet_events : (may : ℕ → Bool) (events : List Event) → AreQuiet may events → (acks_in tick events ≡ 0) × Following tick rings may events
+  quiet_events may [] h = (refl, tt)
+  quiet_events may (x ∷ xs) h =
+      let one = quiet_event may x h.0 in
+      let more = quiet_events may xs h.1 in
+      (none (is_ack_of tick x) (acks_in tick xs) one.1 more.0, (one.0, following_more may (may_after tick may x) xs (after_all may x) more.1))
+    where
+      none : (a b : ℕ) → a ≡ 0 → b ≡ 0 → a + b ≡ 0
+      none a b e f = omega (arith, e, f)
+
+module _ (may : ℕ → Bool) where
+  quiet_append : (xs ys : List Event) → AreQuiet may xs → AreQuiet may ys → AreQuiet may (xs ++ ys)
+  quiet_append [] ys h later = later
+  quiet_append (x ∷ xs) ys h later = (h.0, quiet_append xs ys h.1 later)
+
+  shown_quiet : (about : About) (sent : Sent) → shows_quietly may about ≡ true → AreQuiet may (events_of about sent)
+  shown_quiet (injected gsi pic) sent h = (h, tt)
+  shown_quiet (resent pin) sent h = (refl, tt)
+  shown_quiet ipi sent h = (refl, tt)
+  shown_quiet (the_reply pic) sent h = tt
+
+  -- what a quiet plan tells is quiet, and the tick state stays
+  run_quiet : {A : Type 0} (m : Plan A) (b : Board) (ws : Wishes) → Quiet may m → ((run m b ws).board.tick ≡ b.tick) × AreQuiet may (run m b ws).log.events
+  run_quiet (done a) b ws h = (refl, tt)
+  run_quiet (look p k) b ws h = run_quiet (k (part_of b p)) b ws (h (part_of b p))
+  run_quiet (put p v rest) b ws h =
+      let later = run_quiet rest (with_part b p v) ws h.1 in
+      (later.0 ∙ part_of-with_other b p parts.Tick v h.0, later.1)
+  run_quiet (tell x rest) b ws h = let later = run_quiet rest b ws h.1 in (later.0, (h.0, later.1))
+  run_quiet (answer r rest) b ws h = run_quiet rest b ws h
+  run_quiet (choose m about g k) b ws h =
+      let s = g (next_wish ws) in
+      let later = run_quiet (k s) b (later_wishes ws) (h.1 s) in
+      (later.0, quiet_append (events_of about s) (run (k s) b (later_wishes ws)).log.events (shown_quiet about s h.0) later.1)
+
+  say_quiet : (events : List Event) → AreQuiet may events → Quiet may (say_each events)
+  say_quiet [] h = tt
+  say_quiet (x ∷ xs) h = (h.0, say_quiet xs h.1)
+
+  resamples_quiet : (counters : List ℕ) → AreQuiet may (map Resampled counters)
+  resamples_quiet [] = tt
+  resamples_quiet (x ∷ xs) = (refl, resamples_quiet xs)
+
+  watches_quiet : (counters : List ℕ) → AreQuiet may (map Watched counters)
+  watches_quiet [] = tt
+  watches_quiet (x ∷ xs) = (refl, watches_quiet xs)
+
+  signal_quiet : (counters : List ℕ) (events : List Event) → AreQuiet may events → Quiet may (signal_each counters events)
+  signal_quiet counters events h = λ counts. (refl, say_quiet events h)
+
+  resample_quiet : (targets : Targets) (gsi : ℕ) (registry : RegistryPart) → Quiet may (resample targets gsi registry)
+  resample_quiet targets gsi registry = elim (has_resampler registry.irqfds gsi) as (λ t. Quiet may (if not t then done tt else (let_go targets Resample >> rest))) [
+    | true ↦ quiet_bind may (λ _. rest) (let_go targets Resample) (let_go_quiet may targets Resample) (λ _. signal_quiet (resampled registry.irqfds gsi) (resample_events registry.irqfds gsi) (resamples_quiet (resampled registry.irqfds gsi)))
+    | false ↦ tt
+  ]
+    where
+      rest : Plan (Unit {0})
+      rest = signal_each (resampled registry.irqfds gsi) (resample_events registry.irqfds gsi)
+
+  concerned_quiet : (routing : Routing) (gsi : ℕ) → Quiet may (resample_and_notify routing gsi)
+  concerned_quiet routing gsi = λ registry counts tick pic ioapic.
+      quiet_bind may (λ _. notify gsi registry) (resample (routing.targets gsi) gsi registry) (resample_quiet (routing.targets gsi) gsi registry)
+      (λ _. signal_quiet (watched registry.watches gsi) (watch_events registry.watches gsi) (watches_quiet (watched registry.watches gsi)))
+
+  tell_quiet : (routing : Routing) (gsi : Option ℕ) → Quiet may (tell_concerned routing gsi)
+  tell_quiet routing None = tt
+  tell_quiet routing (Some gsi) = elim (routing.marked gsi) as (λ t. Quiet may (if t then resample_and_notify routing gsi else done tt)) [ true ↦ concerned_quiet routing gsi | false ↦ tt ]
+
+  pub resend_quiet : (cpus pin : ℕ) (message : Option Message) → Quiet may (resend cpus pin message)
+  resend_quiet cpus pin None = tt
+  resend_quiet cpus pin (Some message) =
+      quiet_bind may (λ answer. accept_pin pin (is_accepted message answer)) (send cpus message None (resent pin)) (send_quiet may (resent pin) refl cpus message None)
+      (λ answer. accept_pin_quiet may pin (is_accepted message answer))
+
+  level_quiet : (cpus : ℕ) (pin : Pin) → Quiet may (end_level cpus pin)
+  level_quiet cpus (pins.Pic pin) = tt
+  level_quiet cpus (pins.Ioapic pin) = λ part. elim ((entry_at (ioapic_of part) pin).level) as (λ t. Quiet may (if t then clear_and_resend cpus pin part else done tt)) [
+    | true ↦ (refl, resend_quiet cpus pin (resend_of (acknowledged (ioapic_of part) pin) pin))
+    | false ↦ tt
+  ]
+
+-- a quiet plan tells no acknowledge
+pub quiet_acks : {A : Type 0} (tick : ℕ) (may : ℕ → Bool) (m : Plan A) (b : Board) (ws : Wishes) → Quiet may m → acks_in tick (run m b ws).log.events ≡ 0
+quiet_acks tick may m b ws h = (quiet_events tick true may (run m b ws).log.events (run_quiet may m b ws h).1).0
+
+-- ---- plans that conserve ticks
+
+-- on every board, under all wishes
+abbrev pub Conserving : {A : Type 0} → ℕ → Bool → (ℕ → Bool) → ℕ → Plan A → Type 0
+Conserving tick rings may taken m = (b : Board) (ws : Wishes) → Conserves tick rings may taken b (run m b ws)
+
+module _ (tick : ℕ) (rings : Bool) (may : ℕ → Bool) where
+  pub quiet_conserving : {A : Type 0} (m : Plan A) → Quiet may m → Conserving tick rings may 0 m
+  quiet_conserving m h = λ b ws.
+      let o = run_quiet may m b ws h in
+      let told = quiet_events tick rings may (run m b ws).log.events o.1 in
+      record {
+        reinjects = ap (λ (s : TickState). s.reinjects) o.0;
+        pending = λ _. none ((run m b ws).board.tick.pending) b.tick.pending (acks_in tick (run m b ws).log.events) (ap (λ (s : TickState). s.pending) o.0) told.0;
+        follows = told.1;
+      }
+    where
+      none : (left was acks : ℕ) → left ≡ was → acks ≡ 0 → left ≡ was - (0 + acks)
+      none left was acks same never = omega (arith, same, never)
+
+  -- one plan after another
+  pub then_conserves : {A B : Type 0} (i j : ℕ) (f : A → Plan B) (m : Plan A) (b : Board) (ws : Wishes) → Conserves tick rings may i b (run m b ws) → ((a : A) → Conserving tick rings may j (f a)) → Conserves tick rings may (i + j) b (run (m >>= f) b ws)
+  then_conserves {A} {B} i j f m b ws first next =
+      let o = run m b ws in
+      let later = next o.value o.board o.wishes in
+      let r = run (f o.value) o.board o.wishes in
+      let both : Conserves tick rings may (i + j) b (then_run o f) = record {
+        reinjects = later.reinjects ∙ first.reinjects;
+        pending = λ on. sum r.board.tick.pending o.board.tick.pending b.tick.pending (acks_in tick o.log.events) (acks_in tick r.log.events) (acks_in tick (o.log.events ++ r.log.events)) (later.pending (first.reinjects ∙ on)) (first.pending on) (acks_append tick o.log.events r.log.events);
+        follows = following_append tick rings may o.log.events r.log.events first.follows later.follows;
+      } in
+      subst (λ (q : Outcome B). Conserves tick rings may (i + j) b q) (sym (run-bind f m b ws)) both
+    where
+      sum : (last mid was k l all : ℕ) → last ≡ mid - (j + l) → mid ≡ was - (i + k) → all ≡ k + l → last ≡ was - (i + j + all)
+      sum last mid was k l all e f g = omega (arith, e, f, g)
+
+  -- the first of two takes none
+  pub bind_conserving : {A B : Type 0} (taken : ℕ) (f : A → Plan B) (m : Plan A) → Conserving tick rings may 0 m → ((a : A) → Conserving tick rings may taken (f a)) → Conserving tick rings may taken (m >>= f)
+  bind_conserving {A} {B} taken f m first next = λ b ws.
+      let r = then_conserves 0 taken f m b ws (first b ws) next in
+      record { reinjects = r.reinjects; pending = λ on. same (run (m >>= f) b ws).board.tick.pending b.tick.pending (acks_in tick (run (m >>= f) b ws).log.events) (r.pending on); follows = r.follows }
+    where
+      same : (left was acks : ℕ) → left ≡ was - (0 + taken + acks) → left ≡ was - (taken + acks)
+      same left was acks e = omega (arith, e)
+
+  -- the tick state is written, with so many ticks taken off
+  pub put_conserves : {A : Type 0} (taken : ℕ) (m : Plan A) (b : Board) (v : TickState) (ws : Wishes) → v.reinjects ≡ b.tick.reinjects → (b.tick.reinjects ≡ true → v.pending ≡ b.tick.pending - taken) → Conserving tick rings may 0 m → Conserves tick rings may taken b (run (put parts.Tick v m) b ws)
+  put_conserves taken m b v ws same less later =
+      let r = later (with_part b parts.Tick v) ws in
+      record {
+        reinjects = r.reinjects ∙ same;
+        pending = λ on. sum (run m (with_part b parts.Tick v) ws).board.tick.pending v.pending b.tick.pending (acks_in tick (run m (with_part b parts.Tick v) ws).log.events) (r.pending (same ∙ on)) (less on);
+        follows = r.follows;
+      }
+    where
+      sum : (last mid was acks : ℕ) → last ≡ mid - (0 + acks) → mid ≡ was - taken → last ≡ was - (taken + acks)
+      sum last mid was acks e f = omega (arith, e, f)
+
+tick_injected_same : (s : TickState) (status : Status) → ((tick_injected s status).reinjects ≡ s.reinjects) × ((tick_injected s status).pending ≡ s.pending)
+tick_injected_same s status = elim s.reinjects as (λ t. ((if t then record s { free = is_ignored status } else s).reinjects ≡ s.reinjects) × ((if t then record s { free = is_ignored status } else s).pending ≡ s.pending)) [ true ↦ (refl, refl) | false ↦ (refl, refl) ]
+
+tick_acked_same : (s : TickState) → (tick_acked s).reinjects ≡ s.reinjects
+tick_acked_same s = elim s.reinjects as (λ t. (if t then record s { pending = s.pending - 1; free = true } else s).reinjects ≡ s.reinjects) [ true ↦ refl | false ↦ refl ]
+
+tick_acked_less : (s : TickState) → s.reinjects ≡ true → (tick_acked s).pending ≡ s.pending - 1
+tick_acked_less s on = ap (λ t. (if t then record s { pending = s.pending - 1; free = true } else s).pending) on
+
+module _ (routing : Routing) (shape : Shape) (rings : Bool) where
+  -- ---- a tick is injected
+
+  pub tick_conserving : (may : ℕ → Bool) (about : Option TargetAnswer → About) → ((pic : Option TargetAnswer) → shows_quietly may (about pic) ≡ true) → Conserving shape.tick rings may 0 (inject_tick routing shape about)
+  tick_conserving may about there =
+      bind_conserving shape.tick rings may 0 (λ status. change parts.Tick (λ tick. tick_injected tick status)) (inject shape.cpus (routing.targets shape.tick) TickSource about)
+      (quiet_conserving shape.tick rings may (inject shape.cpus (routing.targets shape.tick) TickSource about) (inject_quiet may shape.cpus (routing.targets shape.tick) TickSource about there))
+      (λ status b ws. let same = tick_injected_same b.tick status in
+      put_conserves shape.tick rings may 0 (done tt) b (tick_injected b.tick status) ws same.0 (λ _. none same.1) (quiet_conserving shape.tick rings may (done tt) tt))
+    where
+      none : {a b : ℕ} → a ≡ b → a ≡ b - 0
+      none e = omega (arith, e)
+
+  next_conserving : (may : ℕ → Bool) (injects : Bool) → may shape.tick ≡ true → Conserving shape.tick rings may 0 (inject_next routing shape injects)
+  next_conserving may true h = tick_conserving may (λ pic. injected shape.tick pic) (λ _. h)
+  next_conserving may false h = quiet_conserving shape.tick rings may (done tt) tt
+
+  -- ---- an acknowledge
+
+  -- its last step takes a tick where the acknowledge that was told is of the tick's GSI
+  end_tick_conserving : (may : ℕ → Bool) (pin : Pin) (gsi : Option ℕ) → Conserving shape.tick rings (may_after shape.tick may (Acked pin gsi)) (is_ack_of shape.tick (Acked pin gsi)) (end_tick routing shape gsi)
+  end_tick_conserving may pin None = quiet_conserving shape.tick rings may (done tt) tt
+  end_tick_conserving may pin (Some gsi) = elim (nat_eq gsi shape.tick) as (λ t. Conserving shape.tick rings (λ g. may g || (t && nat_eq g shape.tick)) (if t then 1 else 0) (if t then acknowledge_tick routing shape else done tt)) [
+    | true ↦ λ b ws. put_conserves shape.tick rings (λ g. may g || nat_eq g shape.tick) 1 (inject_next routing shape (ack_injects b.tick)) b (tick_acked b.tick) ws (tick_acked_same b.tick) (tick_acked_less b.tick)
+        (next_conserving (λ g. may g || nat_eq g shape.tick) (ack_injects b.tick) (or_same (may shape.tick) shape.tick))
+    | false ↦ quiet_conserving shape.tick rings (λ g. may g || false) (done tt) tt
+  ]
+    where
+      or_same : (t : Bool) (n : ℕ) → (t || nat_eq n n) ≡ true
+      or_same t n = grind arith
+
+  acknowledge_conserving : (may : ℕ → Bool) (pin : Pin) → Conserving shape.tick rings may 0 (acknowledge routing shape pin)
+  acknowledge_conserving may pin = λ b ws.
+      let gsi = routing.gsi_of pin in
+      let after = may_after shape.tick may (Acked pin gsi) in
+      let m = tell_concerned routing gsi in
+      let f = λ (_ : Unit {0}). end_level shape.cpus pin >> end_tick routing shape gsi in
+      let taken = is_ack_of shape.tick (Acked pin gsi) in
+      let r = bind_conserving shape.tick rings after taken f m (quiet_conserving shape.tick rings after m (tell_quiet after routing gsi))
+      (λ _. bind_conserving shape.tick rings after taken (λ _. end_tick routing shape gsi) (end_level shape.cpus pin) (quiet_conserving shape.tick rings after (end_level shape.cpus pin) (level_quiet after shape.cpus pin)) (λ _. end_tick_conserving may pin gsi)) b ws in
+      record { reinjects = r.reinjects; pending = λ on. same (run (m >>= f) b ws).board.tick.pending b.tick.pending taken (acks_in shape.tick (run (m >>= f) b ws).log.events) (r.pending on); follows = (refl, r.follows) }
+    where
+      same : (left was taken acks : ℕ) → left ≡ was - (taken + acks) → left ≡ was - (0 + (taken + acks))
+      same left was taken acks e = omega (arith, e)
+
+  pub each_conserving : (may : ℕ → Bool) (list : List Pin) → Conserving shape.tick rings may 0 (acknowledge_each routing shape list)
+  each_conserving may [] = quiet_conserving shape.tick rings may (done tt) tt
+  each_conserving may (pin ∷ list) = bind_conserving shape.tick rings may 0 (λ _. acknowledge_each routing shape list) (acknowledge routing shape pin) (acknowledge_conserving may pin) (λ _. each_conserving may list)
