@@ -13,9 +13,9 @@ mod sound;
 mod typed;
 
 pub use histories::{
-    each_acknowledge_resamples_once, no_signal_of_deassigned_trigger,
-    other_injections_follow_acknowledges, requests_stay_pending, ticks_are_conserved,
-    ticks_inject_free,
+    coalesced_and_ignored_change_no_request, each_acknowledge_resamples_once, lapics_stay_in_place,
+    no_signal_of_deassigned_trigger, other_injections_follow_acknowledges, requests_stay_pending,
+    statuses_without_effect_change_no_request, ticks_are_conserved, ticks_inject_free,
 };
 pub use laws::{
     always_answers, answers_once, board_after_is_reached, calls_steadily, leads_to_one,
