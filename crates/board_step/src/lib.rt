@@ -2,8 +2,8 @@
 //!
 //! Reading order of the definitions: `Refusals` (why a call is refused), `Registrations`, `Ticks`, `Processors` and `Accesses`
 //! (what each call does), `Calls` (all of them), `Step` (one call is one step), `Reach`, `Sound`, `History`, and then what holds
-//! of every step and along every legal history: `Laws`, `HistoryLaws`. The functions here have no body; the contract of each is
-//! a law.
+//! of every step and along every legal history: `Laws`, `HistoryLaws`. The functions here do nothing; the contract of each is a
+//! law.
 #![tactic(auto)]
 
 mod histories;
