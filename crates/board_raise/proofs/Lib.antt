@@ -19,3 +19,4 @@ pub mod Telling
 pub mod Manner
 pub mod SignalSteady
 pub mod Counting
+pub mod EffectNamed

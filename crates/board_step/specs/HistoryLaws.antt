@@ -1,4 +1,4 @@
--- What holds along every legal history.
+-- What holds along every legal history (over this board's own definitions).
 use Rattle.std.specs.Prelude.{◌≡◌, ◌≢◌, ℕ, ◌+◌, Bool, true, false, not, ◌&&◌, ◌||◌, nat_eq, min, if◌then◌else◌, ◌⊎◌, List, [], ◌∷◌, ◌++◌, slice_get, option_map, map, All, IsTrue, Some, None}
 use Rattle.std.specs.List.{Contains, list_any}
 use Rattle.std.specs.declared.option.Option.{Option}
@@ -54,12 +54,13 @@ use Rattle.board_model.specs.Following.{reached}
 use Rattle.board_raise.specs.Named.{Processor, MayReach}
 use Rattle.board_raise.specs.Send.{is_illegal}
 use Rattle.board_raise.specs.Signal.{pic_answer}
-use Rattle.board_raise.specs.Laws.{named_on, has_request_on}
+use Rattle.board_raise.specs.Laws.{named_on, HasProcessors, has_request_on}
 use Rattle.board_step.specs.Refusals.{is_ioapic_address, is_lapic_address}
 use Rattle.board_step.specs.Step.{plan_on, Step}
+use Rattle.board_step.specs.Sound.{LapicsStand}
 use Rattle.board_step.specs.History.{opening, Leads, wishes_shown, next_board, board_after}
 
--- a history of a board: entries, one entry, and the entries after it; the board before it and the board after it
+-- a point of a history: the entries before, one entry, and the entries after it
 pub record Point (shape : Shape) : Type 0 where
   pub before : List Entry
   pub entry : Entry
@@ -227,9 +228,17 @@ pub record ChangesNoRequest (b : Board) (e : Entry) (c : Board) (status : Status
   pub said : IsSaidOf b targets status
   pub requests : SameRequests b c
 
--- so it is in each step
+-- so it is in each step from a board on which each processor has a local APIC with its number
 abbrev pub CoalescedAndIgnoredChangeNoRequest : Type 0
-CoalescedAndIgnoredChangeNoRequest = (b : Board) (e : Entry) (c : Board) (status : Status) → Step b e c → e.reply ≡ Signal status → is_without_effect status ≡ true → ChangesNoRequest b e c status
+CoalescedAndIgnoredChangeNoRequest = (b : Board) (e : Entry) (c : Board) (status : Status) → HasProcessors b b.shape.cpus → Step b e c → e.reply ≡ Signal status → is_without_effect status ≡ true → ChangesNoRequest b e c status
+
+-- a step keeps a local APIC for each processor, with its number
+abbrev pub LapicsStayInPlace : Type 0
+LapicsStayInPlace = (b : Board) (e : Entry) (c : Board) → LapicsStand b → Step b e c → LapicsStand c
+
+-- a status without effect is said of its targets and changes no request, in each entry of a legal history
+abbrev pub StatusesWithoutEffectChangeNoRequest : Type 0
+StatusesWithoutEffectChangeNoRequest = (shape : Shape) (p : Point shape) (status : Status) → IsLegal shape p → p.entry.reply ≡ Signal status → is_without_effect status ≡ true → ChangesNoRequest (board_at shape p) p.entry (board_left shape p) status
 
 -- ---- each acknowledge resamples once, in order
 
