@@ -16,6 +16,7 @@ pub mod Delivered
 pub mod Rows
 pub mod OnHand
 pub mod Telling
+pub mod Lacking
 pub mod Manner
 pub mod SignalSteady
 pub mod Counting
