@@ -39,7 +39,8 @@ signal_each counters events = do
 
 -- ---- steps 2 and 3: those whom the GSI concerns
 
--- the registry, after a look at each part that an acknowledge of a marked GSI may concern
+-- the registry, after a look at each part that an acknowledge of a marked GSI may concern, so that what is reached depends on
+-- the mark alone, and not on which registrations there are
 abbrev pub see_concerned : Plan RegistryPart
 see_concerned = do
   registry ← see Registry
@@ -75,7 +76,7 @@ tell_concerned routing (Some gsi) = if routing.marked gsi then resample_and_noti
 
 -- ---- step 4: the redirection entry
 
--- a message that is sent again shows as Resent, and sets remote IRR again where a processor took it
+-- a message that is sent again shows as Resent, and sets remote IRR again where processors took a level-triggered one
 abbrev pub resend : ℕ → ℕ → Option Message → Plan (Unit {0})
 resend cpus pin None = done tt
 resend cpus pin (Some message) = do

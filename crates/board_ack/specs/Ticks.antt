@@ -21,8 +21,8 @@ abbrev pub inject_next : Routing → Shape → Bool → Plan (Unit {0})
 inject_next routing shape true = inject_tick routing shape (λ pic. injected shape.tick pic)
 inject_next routing shape false = done tt
 
--- an acknowledge of a pin of the tick's GSI frees the tick state and takes one tick off, and the next is injected where one
--- is left
+-- an acknowledge of a pin of the tick's GSI: under reinjection it frees the tick state and takes one tick off, if any is
+-- pending, and the next is injected where one is left; without reinjection it does nothing
 abbrev pub acknowledge_tick : Routing → Shape → Plan (Unit {0})
 acknowledge_tick routing shape = do
   tick ← see Tick

@@ -12,13 +12,14 @@ use Rattle.board_model.proofs.Alike.{or-true, or-true_right}
 
 -- ---- one write
 
-module _ (q : Parts) (b : Board) (p : Part) (v : ValueOf p) (h : part_in q p ≡ Some v) (w : ValueOf p) where
+module _ (q : Parts) (p : Part) (v : ValueOf p) (h : part_in q p ≡ Some v) (w : ValueOf p) where
   held_after : (r : Part) → is_some (part_in (with_part_in q p w) r) ≡ is_some (part_in q r)
   held_after r = elim (is_same p r) as (λ t. is_same p r ≡ t → is_some (part_in (with_part_in q p w) r) ≡ is_some (part_in q r)) [
     | true ↦ λ s. subst (λ x. is_some (part_in (with_part_in q p w) x) ≡ is_some (part_in q x)) (same_is p r s) (ap is_some (in_written q p v w h) ∙ sym (ap is_some h))
     | false ↦ λ s. ap is_some (in_other q p r w s)
   ] refl
 
+module _ (q : Parts) (b : Board) (p : Part) (v : ValueOf p) (h : part_in q p ≡ Some v) (w : ValueOf p) where
   agrees-itself : Agrees q b → (u : ValueOf p) → part_in (with_part_in q p w) p ≡ Some u → part_in (all_parts (with_part b p w)) p ≡ Some u
   agrees-itself a u e = ap (λ x. part_in x p) (all_written b p w) ∙ in_written (all_parts b) p v w (a p v h) ∙ sym (in_written q p v w h) ∙ e
 
@@ -77,7 +78,7 @@ exact_on_parts {A} (put p w rest) q b ws agrees = elim (part_in q p) as (λ (x :
   | None ↦ λ e. record { lacking = e; reached = or-true _ _ (same_itself p) }
   | Some v ↦ λ e.
       reaches_too p (run_on rest (with_part_in q p w) ws) (run rest (with_part b p w) ws) q (reaches rest (with_part b p w) ws) (ap is_some e)
-      (held_before (run_on rest (with_part_in q p w) ws) (run rest (with_part b p w) ws) q (with_part_in q p w) (reaches rest (with_part b p w) ws) (held_after q b p v e w)
+      (held_before (run_on rest (with_part_in q p w) ws) (run rest (with_part b p w) ws) q (with_part_in q p w) (reaches rest (with_part b p w) ws) (held_after q p v e w)
       (exact_on_parts rest (with_part_in q p w) (with_part b p w) ws (agrees_after q b p v e w agrees)))
 ] refl
 exact_on_parts (tell x rest) q b ws agrees = shows_too (told x) (run_on rest q ws) (run rest b ws) q (reaches rest b ws) (exact_on_parts rest q b ws agrees)
@@ -92,3 +93,26 @@ lacking_from (lacks p) o q reach h = (λ _. record { part = p; lacks = h }, λ _
 
 pub lacking_exactly : {A : Type 0} (m : Plan A) (q : Parts) (b : Board) (ws : Wishes) → Agrees q b → IsLacking (run_on m q ws) ↔ ReachesPast q (reaches m b ws)
 lacking_exactly m q b ws agrees = lacking_from (run_on m q ws) (run m b ws) q (reaches m b ws) (exact_on_parts m q b ws agrees)
+
+-- ---- on any parts, of a board or not
+
+lacks_too : {A : Type 0} (f : Log → Log) (s : OnParts A) (p : Part) → with_log_on f s ≡ lacks p → s ≡ lacks p
+lacks_too f (gives a l r ws) p e = cc
+lacks_too f (lacks r) p e = cc
+
+lacks-is : {A : Type 0} (r p : Part) → ◌≡◌ {A = OnParts A} (lacks r) (lacks p) → r ≡ p
+lacks-is r p e = cc
+
+pub lacking_is_not_held : {A : Type 0} (m : Plan A) (q : Parts) (ws : Wishes) (p : Part) → run_on m q ws ≡ lacks p → part_in q p ≡ None
+lacking_is_not_held (done a) q ws p e = cc
+lacking_is_not_held {A} (look r k) q ws p e = elim (part_in q r) as (λ (x : Option (ValueOf r)). part_in q r ≡ x → ◌≡◌ {A = OnParts A} (elim x [ None ↦ lacks r | Some v ↦ run_on (k v) q ws ]) (lacks p) → part_in q p ≡ None) [
+  | None ↦ λ h l. subst (λ x. part_in q x ≡ None) (lacks-is r p l) h
+  | Some v ↦ λ _ l. lacking_is_not_held (k v) q ws p l
+] refl e
+lacking_is_not_held {A} (put r w rest) q ws p e = elim (part_in q r) as (λ (x : Option (ValueOf r)). part_in q r ≡ x → ◌≡◌ {A = OnParts A} (elim x [ None ↦ lacks r | Some _ ↦ run_on rest (with_part_in q r w) ws ]) (lacks p) → part_in q p ≡ None) [
+  | None ↦ λ h l. subst (λ x. part_in q x ≡ None) (lacks-is r p l) h
+  | Some v ↦ λ h l. none_too (part_in q p) (part_in (with_part_in q r w) p) (held_after q r v h w p) (lacking_is_not_held rest (with_part_in q r w) ws p l)
+] refl e
+lacking_is_not_held (tell x rest) q ws p e = lacking_is_not_held rest q ws p (lacks_too (told x) (run_on rest q ws) p e)
+lacking_is_not_held (answer x rest) q ws p e = lacking_is_not_held rest q ws p (lacks_too (answered x) (run_on rest q ws) p e)
+lacking_is_not_held (choose m about g k) q ws p e = lacking_is_not_held (k (g (next_wish ws))) q (later_wishes ws) p (lacks_too (sending m about (g (next_wish ws))) (run_on (k (g (next_wish ws))) q (later_wishes ws)) p e)

@@ -25,6 +25,10 @@ pub record LacksReached (p : Part) (q : Parts) (reach : Part → Bool) : Type 0 
   pub lacking : part_in q p ≡ None
   pub reached : reach p ≡ true
 
+-- each part that is reached is in hand
+abbrev pub HoldsReached : Parts → (Part → Bool) → Type 0
+HoldsReached q reach = (p : Part) → reach p ≡ true → is_some (part_in q p) ≡ true
+
 -- what a run on the parts in hand is worth: it gives as the board, or it lacks a part that is reached
 abbrev pub Exact : {A : Type 0} → OnParts A → Outcome A → Parts → (Part → Bool) → Type 0
 Exact (gives a l r ws) o q reach = GivesAsBoard a l r ws o q reach

@@ -1,18 +1,18 @@
 -- What holds of every plan (A and B are the types of the values with which plans end), of statuses and of pins.
-use Rattle.std.specs.Prelude.{◌≡◌, ◌↔◌, ℕ, false, ◌||◌, length}
+use Rattle.std.specs.Prelude.{◌≡◌, ◌↔◌, ℕ, false, ◌||◌, length, None}
 use Rattle.std.specs.declared.option.Option.{Option}
 use Rattle.irq_base.specs.declared.shape.Part.{Part}
 use Rattle.pic_8259a.specs.declared.pair.Pair.{Pair}
 use Rattle.ioapic_82093aa.specs.declared.ioapic.Ioapic.{Ioapic}
 use Rattle.board_model.specs.Board.{Board, part_of}
-use Rattle.board_model.specs.Hand.{Parts}
+use Rattle.board_model.specs.Hand.{Parts, part_in}
 use Rattle.board_model.specs.Registry.{RegistryPart}
 use Rattle.board_model.specs.Routing.{routing_of_registry}
 use Rattle.board_model.specs.Published.{published, routing_of_words, IsSoundRegistry}
 use Rattle.board_model.specs.Chips.{PicPart, IoapicPart, master_high, slave_high, pair_of, with_pair, ioapic_high, ioapic_of, with_ioapic}
 use Rattle.board_model.specs.Statuses.{Sent, TargetAnswer, status_sent, sets_of}
 use Rattle.board_model.specs.Plan.{Plan, ◌>>=◌}
-use Rattle.board_model.specs.Run.{Wishes, run, then_run, reaches, run_on, then_on}
+use Rattle.board_model.specs.Run.{Wishes, run, then_run, reaches, lacks, run_on, then_on}
 use Rattle.board_model.specs.Agreement.{Agrees, Exact, AgreesOnReach, RunsAlike, SameOutcome, SameFrame, IsLacking, ReachesPast}
 use Rattle.board_model.specs.Following.{shown_wishes, IsSteady}
 
@@ -39,6 +39,10 @@ ExactOnParts A = (m : Plan A) (q : Parts) (b : Board) (ws : Wishes) → Agrees q
 -- on parts in hand of the board a plan lacks a part exactly where it reaches one that is not in hand
 abbrev pub LackingExactly : Type 0 → Type 0
 LackingExactly A = (m : Plan A) (q : Parts) (b : Board) (ws : Wishes) → Agrees q b → IsLacking (run_on m q ws) ↔ ReachesPast q (reaches m b ws)
+
+-- on any parts in hand a plan lacks only a part that is not in hand
+abbrev pub LackingIsNotHeld : Type 0 → Type 0
+LackingIsNotHeld A = (m : Plan A) (q : Parts) (ws : Wishes) (p : Part) → run_on m q ws ≡ lacks p → part_in q p ≡ None
 
 -- a steady plan run again under the wishes that its log shows gives the same value, log and board
 abbrev pub ShownFollowed : Type 0 → Type 0

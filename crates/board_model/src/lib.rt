@@ -11,7 +11,7 @@
 
 mod trigger;
 
-ghost use Rattle.board_model.specs.Laws.{UnreachedStays, FrameStays, AgreeingAlike, ShownDecides, ExactOnParts, LackingExactly, ShownFollowed, RunInSequence, RunOnInSequence, ReachesInSequence, StatusShowsSets, PinsFollowHolds, WordsTellTheRouting, PublishedDecides};
+ghost use Rattle.board_model.specs.Laws.{UnreachedStays, FrameStays, AgreeingAlike, ShownDecides, ExactOnParts, LackingExactly, LackingIsNotHeld, ShownFollowed, RunInSequence, RunOnInSequence, ReachesInSequence, StatusShowsSets, PinsFollowHolds, WordsTellTheRouting, PublishedDecides};
 
 pub use trigger::TriggerWord;
 
@@ -49,6 +49,12 @@ pub fn exact_on_parts<A>()
 /// A law: on parts in hand of a board a plan lacks a part exactly where it reaches one that is not in hand.
 pub fn lacking_exactly<A>()
     ensures { LackingExactly A }
+{}
+
+/// A law: on any parts in hand, of a board or not, what a plan lacks is a part that is not in hand.
+#[tactic(auto, using(crate::proofs::OnParts::lacking_is_not_held))]
+pub fn lacking_is_not_held<A>()
+    ensures { LackingIsNotHeld A }
 {}
 
 /// A law: a plan that is run again under the wishes that its log shows makes the same choices, if to wish for what was

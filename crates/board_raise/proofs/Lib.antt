@@ -16,6 +16,8 @@ pub mod Delivered
 pub mod Rows
 pub mod OnHand
 pub mod Telling
+pub mod Lacking
 pub mod Manner
 pub mod SignalSteady
 pub mod Counting
+pub mod EffectNamed

@@ -1,4 +1,4 @@
--- The parts in hand that the code has, as parts of the model.
+-- The parts in hand that the code has, as parts of the model (this board's own).
 use Rattle.std.specs.Prelude.{◌≡◌, ℕ, length, is_some, option_map}
 use Rattle.std.specs.declared.option.Option.{Option}
 use Rattle.irq_base.specs.declared.shape.Part.{Part}

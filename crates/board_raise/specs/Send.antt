@@ -1,4 +1,5 @@
--- A message is sent (SDM volume 3, message-signalled interrupts, interrupt command register; what a refused message answers
+-- A message is sent, in five steps: its mode, the named processors, an illegal vector, the chosen ones, and their acceptance
+-- (SDM volume 3, message-signalled interrupts, interrupt command register; what a refused message answers
 -- is this board's own rule).
 use Rattle.std.specs.Prelude.{ℕ, zero, suc, Bool, false, not, nat_eq, nat_lt, if◌then◌else◌, List, [], ◌∷◌, ◌++◌, filter, Some, None}
 use Rattle.std.specs.declared.option.Option.{Option}
@@ -114,7 +115,8 @@ send_to message from about processors [] = ignore about NoProcessor
 send_to message from about processors (p ∷ ps) =
     if is_illegal message then refuse_vector message about processors (p ∷ ps) else deliver message from about processors (p ∷ ps)
 
--- the message is sent on a board with so many processors: a mode that no local APIC takes is ignored; else the five steps
+-- the message is sent on a board with so many processors; step 1: a mode that no local APIC takes is ignored; else steps 2 to
+-- 5
 abbrev pub send : ℕ → Message → Option (ℕ × Shorthand) → About → Plan TargetAnswer
 send cpus message from about =
     if not (is_taken message.mode) then ignore about BadMode

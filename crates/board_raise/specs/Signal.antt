@@ -35,7 +35,7 @@ pic_raised pic pin source = record (with_pair pic (pin_set (pair_of pic) pin tru
 abbrev pub pic_let_go : PicPart → ℕ → Source → PicPart
 pic_let_go pic pin source = record pic { holds = set.remove pic.holds (hold pin source) }
 
--- what the 8259A's answer is to the signal
+-- what the 8259A's answer is to a raise, which is never answered as lowered
 abbrev pub pic_answer : PinOutcome → TargetAnswer
 pic_answer outcomes.New = newly_taken
 pic_answer outcomes.Stood = stood_already
@@ -60,11 +60,12 @@ ioapic_raised part pin source = record part { holds = set.insert part.holds (hol
 abbrev pub ioapic_let_go : IoapicPart → ℕ → Source → IoapicPart
 ioapic_let_go part pin source = record part { holds = set.remove part.holds (hold pin source) }
 
--- processors took the message of a level-triggered pin, new or again: its remote IRR is set
+-- whether processors took a level-triggered message, newly or again; an NMI is none
 abbrev pub is_accepted : Message → TargetAnswer → Bool
 is_accepted message (no_effect cause) = false
 is_accepted message answer = message.level
 
+-- remote IRR of the pin is set where that is so
 abbrev pub accept_pin : ℕ → Bool → Plan (Unit {0})
 accept_pin pin true = change Ioapic (λ part. with_ioapic part (accepted (ioapic_of part) pin))
 accept_pin pin false = done tt

@@ -1,4 +1,4 @@
--- What the status of a sending tells: by it alone, what the message answers, what shows and whom it reached.
+-- What the status of a sending tells (after KVM_IRQ_LINE_STATUS): by it alone, what the message answers, what shows and whom it reached.
 use Rattle.std.specs.Prelude.{◌≡◌, ℕ, if◌then◌else◌, false, List, [], ◌∷◌, Result, Ok, Err, Some, None}
 use Rattle.std.specs.declared.option.Option.{Option}
 use Rattle.irq_base.specs.declared.event.Event.{Event}

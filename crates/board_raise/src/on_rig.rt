@@ -1,12 +1,14 @@
 //! Signals on the parts that a rig lends.
-ghost use Rattle.std.specs.Prelude.{◌≡◌, ◌≤◌, length, IfOk};
+ghost use Rattle.std.specs.Prelude.{◌≡◌, ◌≤◌, length, IfOk, IfErr};
 ghost use Rattle.irq_base.specs.declared.shape.Shape.{Shape};
 ghost use Rattle.lapic.specs.Messages.{is_taken};
 ghost use Rattle.board_model.specs.Plan.{About};
 ghost use Rattle.board_model.specs.Run.{run_on};
+ghost use Rattle.board_model.specs.Agreement.{LacksReached, HoldsReached};
 ghost use Rattle.board_raise.specs.Fit.{LapicsFit};
 ghost use Rattle.board_raise.specs.InHand.{parts_of, OnlyApicsChange};
 ghost use Rattle.board_raise.specs.Send.{is_illegal, send};
+ghost use Rattle.board_raise.specs.ReachLaws.{of_message};
 ghost use Rattle.board_raise.specs.Told.{heading_of, status_told, Tells, IsOfMessage};
 
 use crate::lacks::Lacks;
@@ -48,9 +50,17 @@ fn status_of(reached: Reached) -> Status
 }
 
 /// Sends a message to the processors of a board (SDM volume 3, message signalled interrupts, interrupt command register).
-/// `from` is the sender and the shorthand of an interprocessor interrupt, and none for any other message. A local APIC that
-/// is to be looked at and is not in hand is lacking. A message of a mode that no local APIC takes, one that names no
-/// processor and one with an illegal vector are ignored. The rig is asked for a wish once for each message that is sent.
+/// `cpus` is the number of its processors, 1 to 64; the row of local APICs has as many places. `from` is the sender and the
+/// shorthand of an interprocessor interrupt, and none for any other message.
+///
+/// `Ok` carries the status of this message alone: what a pin of the 8259A pair answers to the same signal is not in it. A
+/// message of a mode that no local APIC takes, one that names no processor and one with an illegal vector are ignored. The
+/// rig is asked for a wish once for each message that is sent.
+///
+/// A message of a mode that no local APIC takes looks at none. Any other looks at those that its shorthand tells: the
+/// sender's own for `OwnOnly`, every one for `All` and `Others`. Without a shorthand, or with `Field`, it looks at those that
+/// its destination tells: the one of that number for a physical destination, every one for a logical one or the broadcast.
+/// `Lacks` names the first of these local APICs, by number, that is not in hand; with `Ok` all of them were.
 pub fn send<R: Rig>(
     rig: &mut R,
     cpus: u16,
@@ -60,6 +70,8 @@ pub fn send<R: Rig>(
     requires few_cpus { cpus ≤ 64 }
     requires places { length (R.held rig.old).lapics ≡ cpus }
     ensures does { (about : About) → Tells (heading_of message.now from) about result (parts_of (R.held rig.new)) (R.wishes rig.new) (run_on (send cpus message.now from about) (parts_of (R.held rig.old)) (R.wishes rig.old)) }
+    ensures lacks { IfErr result (λ l. LacksReached l.part (parts_of (R.held rig.old)) (of_message message.now from cpus)) }
+    ensures reached { IfOk result (λ _. HoldsReached (parts_of (R.held rig.old)) (of_message message.now from cpus)) }
     ensures status { IfOk result IsOfMessage }
     ensures kept { OnlyApicsChange (R.held rig.old) (R.held rig.new) }
     ensures fits { (shape : Shape) → LapicsFit shape (parts_of (R.held rig.old)) → LapicsFit shape (parts_of (R.held rig.new)) }

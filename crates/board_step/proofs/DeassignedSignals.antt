@@ -8,7 +8,6 @@ use Rattle.irq_base.specs.Refusals.{first_of}
 use Rattle.irq_base.specs.declared.call.Call.{Call}
 use Rattle.irq_base.specs.declared.call.Call.TheVariants as calls
 use Rattle.irq_base.specs.declared.call.Caller.{Caller}
-use Rattle.irq_base.specs.declared.call.Space.{Space}
 use Rattle.irq_base.specs.declared.call.Space.TheVariants as spaces
 use Rattle.irq_base.specs.declared.event.Event.{Event}
 use Rattle.irq_base.specs.declared.event.Event.TheVariants.{Rang}
@@ -30,11 +29,11 @@ use Rattle.board_model.specs.Plan.{Plan, put, tell, reply, ◌>>◌}
 use Rattle.board_model.specs.Run.{Wishes, Outcome, run}
 use Rattle.board_step.specs.Refusals.{range_reasons, write_reasons, is_trigger, is_ioapic_address, is_lapic_address}
 use Rattle.board_step.specs.Registrations.{unless_refused, write}
-use Rattle.board_step.specs.Accesses.{pair_write, ioapic_store, lapic_store, ring_counter, rung, ring}
+use Rattle.board_step.specs.Accesses.{pair_write, ioapic_store, lapic_store, port_out, store, ring_counter, rung, ring}
 use Rattle.board_step.specs.Calls.{number_of}
-use Rattle.board_step.specs.Step.{plan_on, outcome_of, with_counts, would_publish, Step}
+use Rattle.board_step.specs.Step.{refusal_of, does_publish, publishes_unless, would_publish, plan_on, outcome_of, with_counts, Step}
 use Rattle.board_step.specs.History.{opening, Leads, next_board}
-use Rattle.board_step.specs.HistoryLaws.{board_at, board_left, is_tick, is_tick_mode, MakesTrigger, ChangesCountAlone, SignalsNothing, SignalsNoMore, NoSignalOfDeassignedTrigger}
+use Rattle.board_step.specs.HistoryLaws.{board_at, board_left, MakesTrigger, ChangesCountAlone, SignalsNothing, rung_on, IsRefusedAlone, RingsAlone, SignalsNoMore, NoSignalOfDeassignedTrigger}
 use Rattle.board_step.proofs.Following.{next_is, board_after_is_reached}
 use Rattle.board_step.proofs.SoundRows.{or_neither}
 use Rattle.board_step.proofs.ConservingAcks.{or_right, allows, may_after, Following, quiet_conserving}
@@ -70,10 +69,23 @@ none_found p (x ∷ xs) none =
 
 -- ---- no signal
 
--- an outcome tells these events alone, is done or refused, and changes the count of that counter alone
-record Plainly (counter : ℕ) (events : List Event) (b : Board) (o : Outcome (Unit {0})) : Type 0 where
-  told : o.log.events ≡ events
+-- an outcome tells no event, is done or refused, and changes the count of that counter alone
+record Plainly (counter : ℕ) (b : Board) (o : Outcome (Unit {0})) : Type 0 where
+  told : o.log.events ≡ []
   answers : (o.log.answers ≡ Done ∷ []) ⊎ ((refusal : Refusal) × (o.log.answers ≡ Refused refusal ∷ []))
+  changes : ChangesCountAlone counter b o.board
+
+-- an outcome is a refusal alone
+record Refuses (b : Board) (o : Outcome (Unit {0})) : Type 0 where
+  refusal : Refusal
+  told : o.log.events ≡ []
+  answers : o.log.answers ≡ Refused refusal ∷ []
+  same : o.board ≡ b
+
+-- an outcome tells that it rings the counter, and changes its count alone
+record Rings (counter : ℕ) (b : Board) (o : Outcome (Unit {0})) : Type 0 where
+  told : o.log.events ≡ Rang counter ∷ []
+  answers : o.log.answers ≡ Done ∷ []
   changes : ChangesCountAlone counter b o.board
 
 changes_none : (counter : ℕ) (b : Board) → ChangesCountAlone counter b b
@@ -108,13 +120,13 @@ changes_counted counter t b o h = record { parts = λ q ne. same t q ∙ h.parts
     same false (parts.Lapic n) = refl
 
 module _ (counter : ℕ) (b : Board) (ws : Wishes) where
-  -- a call that is refused
-  unless_plainly : (refusal : Option Refusal) (plan : Plan (Unit {0})) → Plainly counter [] b (run plan b ws) → Plainly counter [] b (run (unless_refused refusal plan) b ws)
-  unless_plainly None plan h = h
-  unless_plainly (Some refusal) plan h = record { told = refl; answers = inr (refusal, refl); changes = changes_none counter b }
-
   abbrev routing : Routing
   routing = routing_of_registry b.registry b.shape.tick
+
+  -- a call that is refused
+  unless_plainly : (refusal : Option Refusal) (plan : Plan (Unit {0})) → Plainly counter b (run plan b ws) → Plainly counter b (run (unless_refused refusal plan) b ws)
+  unless_plainly None plan h = h
+  unless_plainly (Some refusal) plan h = record { told = refl; answers = inr (refusal, refl); changes = changes_none counter b }
 
   module _ (off : is_trigger b.registry counter ≡ false) where
     -- the counter triggers nothing
@@ -122,101 +134,127 @@ module _ (counter : ℕ) (b : Board) (ws : Wishes) where
     no_trigger = ap (option_map trigger_of) (none_found (has_trigger counter) b.registry.irqfds off)
 
     -- a write adds to its count, or is refused
-    write_plainly : (caller : Caller) (n : ℕ) → Plainly counter [] b (run (plan_on b caller (calls.Write counter n)) b ws)
+    write_plainly : (caller : Caller) (n : ℕ) → Plainly counter b (run (plan_on b caller (calls.Write counter n)) b ws)
     write_plainly caller n = unless_plainly (first_of (range_reasons b.shape (calls.Write counter n))) (write routing b.shape (routing.trigger counter) counter n)
-        (subst (λ (trigger : Option TriggerWord). Plainly counter [] b (run (write routing b.shape trigger counter n) b ws)) (sym no_trigger)
+        (subst (λ (trigger : Option TriggerWord). Plainly counter b (run (write routing b.shape trigger counter n) b ws)) (sym no_trigger)
         (unless_plainly (first_of (write_reasons b.counters counter n)) (put parts.Counters (written b.counters counter n) (reply Done))
         (record { told = refl; answers = inl refl; changes = changes_count counter _ b })))
 
     -- ---- a guest write that rings it
 
-    abbrev Rings : Plan (Unit {0}) → Type 0
-    Rings plan = Contains (run plan b ws).log.events (Rang counter) → Plainly counter (Rang counter ∷ []) b (run plan b ws)
+    -- a plan is refused, or rings the counter
+    abbrev RefusesOrRings : Plan (Unit {0}) → Type 0
+    RefusesOrRings plan = Refuses b (run plan b ws) ⊎ Rings counter b (run plan b ws)
 
-    unless_rings : (refusal : Option Refusal) (plan : Plan (Unit {0})) → Rings plan → Rings (unless_refused refusal plan)
-    unless_rings None plan h rang = h rang
-    unless_rings (Some refusal) plan h rang = absurd (no_member (Rang counter) rang)
+    unless_rings : (refusal : Option Refusal) (plan : Plan (Unit {0})) → RefusesOrRings plan → RefusesOrRings (unless_refused refusal plan)
+    unless_rings None plan h = h
+    unless_rings (Some refusal) plan h = inl (record { refusal = refusal; told = refl; answers = refl; same = refl })
 
-    -- what is no ring tells no such event
-    none_rang : (tick : ℕ) (may : ℕ → Bool) (events : List Event) → Following tick false may events → Contains events (Rang counter) → ⊥
-    none_rang tick may [] follows rang = no_member (Rang counter) rang
-    none_rang tick may (x ∷ xs) follows rang = elim (first_or_later x (Rang counter) xs rang) [
-      | inl is ↦ true≢false (sym (ap (allows false may) is ∙ follows.0))
-      | inr later ↦ none_rang tick (may_after tick may x) xs follows.1 later
-    ]
+    rung_rings : (k : Option ℕ) → k ≡ Some counter → RefusesOrRings (rung routing b.shape k)
+    rung_rings k is = subst (λ (k : Option ℕ). RefusesOrRings (rung routing b.shape k)) (sym is)
+        (subst (λ (trigger : Option TriggerWord). RefusesOrRings (tell (Rang counter) (ring_counter routing b.shape counter trigger >> reply Done))) (sym no_trigger)
+        (inr (record { told = refl; answers = refl; changes = changes_count counter _ b })))
 
-    rung_plainly : (k : Option ℕ) → Rings (rung routing b.shape k)
-    rung_plainly None rang = absurd (no_member (Rang counter) rang)
-    rung_plainly (Some k) rang = elim (first_or_later (Rang k) (Rang counter) (run after b ws).log.events rang) [
-      | inl is ↦ let same : counter ≡ k = cc in subst (λ (k : ℕ). Plainly counter (Rang counter ∷ []) b (run (rung routing b.shape (Some k)) b ws)) same own
-      | inr later ↦ absurd (none_rang b.shape.tick (λ _. true) (run after b ws).log.events (quiet_conserving b.shape.tick false (λ _. true) after (rung_quiet (λ _. true) routing b.shape k (routing.trigger k) (λ _. refl)) b ws).follows later)
-    ]
+    -- a write to a port
+    port_rings : (t : Bool) (port len value : ℕ) → (if t then None else rung_by b.registry.ioevents spaces.Port port len value) ≡ Some counter
+        → RefusesOrRings (if t then pair_write routing b.shape port len value else ring routing b.shape spaces.Port port len value)
+    port_rings true port len value is = cc
+    port_rings false port len value is = rung_rings (rung_by b.registry.ioevents spaces.Port port len value) is
+
+    -- a store to memory
+    store_rings : (t u : Bool) (n address len value : ℕ) → (if t || u then None else rung_by b.registry.ioevents spaces.Memory address len value) ≡ Some counter
+        → RefusesOrRings (if t then ioapic_store b.shape (address - 0xfec00000) len value else if u then lapic_store routing b.shape n (address - 0xfee00000) len value else ring routing b.shape spaces.Memory address len value)
+    store_rings true u n address len value is = cc
+    store_rings false true n address len value is = cc
+    store_rings false false n address len value is = rung_rings (rung_by b.registry.ioevents spaces.Memory address len value) is
+
+    call_rings : (caller : Caller) (call : Call) → rung_on b call ≡ Some counter → RefusesOrRings (plan_on b caller call)
+    call_rings caller (calls.PortOut port len value) is = unless_rings (first_of (range_reasons b.shape (calls.PortOut port len value))) (port_out routing b.shape port len value) (port_rings (is_port port) port len value is)
+    call_rings caller (calls.Store address len value) is = unless_rings (first_of (range_reasons b.shape (calls.Store address len value))) (store routing b.shape (number_of caller) address len value) (store_rings (is_ioapic_address address) (is_lapic_address address) (number_of caller) address len value is)
+    call_rings caller _ is = cc
+
+  -- ---- what tells that it rang
+
+  -- a plan tells that the counter rang only where P is so
+  abbrev TellsOnly : Type 0 → Plan (Unit {0}) → Type 0
+  TellsOnly P plan = Contains (run plan b ws).log.events (Rang counter) → P
+
+  unless_tells : (P : Type 0) (refusal : Option Refusal) (plan : Plan (Unit {0})) → TellsOnly P plan → TellsOnly P (unless_refused refusal plan)
+  unless_tells P None plan h = h
+  unless_tells P (Some refusal) plan h = λ rang. absurd (no_member (Rang counter) rang)
+
+  -- what is no ring tells no such event
+  none_rang : (tick : ℕ) (may : ℕ → Bool) (events : List Event) → Following tick false may events → Contains events (Rang counter) → ⊥
+  none_rang tick may [] follows rang = no_member (Rang counter) rang
+  none_rang tick may (x ∷ xs) follows rang = elim (first_or_later x (Rang counter) xs rang) [
+    | inl is ↦ true≢false (sym (ap (allows false may) is ∙ follows.0))
+    | inr later ↦ none_rang tick (may_after tick may x) xs follows.1 later
+  ]
+
+  rung_tells : (k : Option ℕ) → TellsOnly (k ≡ Some counter) (rung routing b.shape k)
+  rung_tells None rang = absurd (no_member (Rang counter) rang)
+  rung_tells (Some k) rang = elim (first_or_later (Rang k) (Rang counter) (run after b ws).log.events rang) [
+    | inl is ↦ let same : k ≡ counter = cc in ap Some same
+    | inr later ↦ absurd (none_rang b.shape.tick (λ _. true) (run after b ws).log.events (quiet_conserving b.shape.tick false (λ _. true) after (rung_quiet (λ _. true) routing b.shape k (routing.trigger k) (λ _. refl)) b ws).follows later)
+  ]
+    where
+      after : Plan (Unit {0})
+      after = ring_counter routing b.shape k (routing.trigger k) >> reply Done
+
+  module _ (caller : Caller) where
+    -- a call that needs ring nothing
+    silent : (P : Type 0) (call : Call) → Lets false (λ _. true) call → TellsOnly P (plan_on b caller call)
+    silent P call lets rang = absurd (none_rang b.shape.tick (λ _. true) (run (plan_on b caller call) b ws).log.events (call_keeps routing b.shape false (λ _. true) caller call lets b ws).follows rang)
+
+    port_tells : (port len value : ℕ) → TellsOnly (rung_on b (calls.PortOut port len value) ≡ Some counter) (plan_on b caller (calls.PortOut port len value))
+    port_tells port len value = by_port (is_port port) refl
       where
-        after : Plan (Unit {0})
-        after = ring_counter routing b.shape k (routing.trigger k) >> reply Done
+        rings : Option ℕ
+        rings = rung_by b.registry.ioevents spaces.Port port len value
 
-        own : Plainly counter (Rang counter ∷ []) b (run (rung routing b.shape (Some counter)) b ws)
-        own = subst (λ (trigger : Option TriggerWord). Plainly counter (Rang counter ∷ []) b (run (tell (Rang counter) (ring_counter routing b.shape counter trigger >> reply Done)) b ws)) (sym no_trigger)
-            (record { told = refl; answers = inl refl; changes = changes_count counter _ b })
+        chip : Bool → Plan (Unit {0})
+        chip t = unless_refused (first_of (range_reasons b.shape (calls.PortOut port len value))) (if t then pair_write routing b.shape port len value else ring routing b.shape spaces.Port port len value)
 
-    ring_plainly : (space : Space) (address len value : ℕ) → Rings (ring routing b.shape space address len value)
-    ring_plainly space address len value = rung_plainly (rung_by b.registry.ioevents space address len value)
+        by_port : (t : Bool) → is_port port ≡ t → TellsOnly (rung_on b (calls.PortOut port len value) ≡ Some counter) (plan_on b caller (calls.PortOut port len value))
+        by_port true is = silent (rung_on b (calls.PortOut port len value) ≡ Some counter) (calls.PortOut port len value) (inl is)
+        by_port false is = subst (λ (t : Bool). TellsOnly ((if t then None else rings) ≡ Some counter) (chip t)) (sym is)
+            (unless_tells (rings ≡ Some counter) (first_of (range_reasons b.shape (calls.PortOut port len value))) (ring routing b.shape spaces.Port port len value) (rung_tells rings))
 
-    lets_silent : (call : Call) → is_tick call ≡ 0 → is_tick_mode call ≡ false → ((port len value : ℕ) → call ≡ calls.PortOut port len value → ⊥) → ((address len value : ℕ) → call ≡ calls.Store address len value → ⊥) → Lets false (λ _. true) call
-    lets_silent (calls.Assign trigger gsi resample) other stays port store = refl
-    lets_silent (calls.PortOut port len value) other stays no_port store = absurd (no_port port len value refl)
-    lets_silent (calls.Store address len value) other stays port no_store = absurd (no_store address len value refl)
-    lets_silent calls.Tick other stays port store = cc
-    lets_silent (calls.TickMode reinject) other stays port store = cc
-    lets_silent _ other stays port store = tt
+    store_tells : (address len value : ℕ) → TellsOnly (rung_on b (calls.Store address len value) ≡ Some counter) (plan_on b caller (calls.Store address len value))
+    store_tells address len value = by_address (is_ioapic_address address) (is_lapic_address address) refl refl
+      where
+        rings : Option ℕ
+        rings = rung_by b.registry.ioevents spaces.Memory address len value
 
-    module _ (caller : Caller) where
-      -- a call that needs ring nothing
-      silent : (call : Call) → Lets false (λ _. true) call → Rings (plan_on b caller call)
-      silent call lets rang = absurd (none_rang b.shape.tick (λ _. true) (run (plan_on b caller call) b ws).log.events (call_keeps routing b.shape false (λ _. true) caller call lets b ws).follows rang)
+        chip : Bool → Bool → Plan (Unit {0})
+        chip t u = unless_refused (first_of (range_reasons b.shape (calls.Store address len value)))
+            (if t then ioapic_store b.shape (address - 0xfec00000) len value else if u then lapic_store routing b.shape (number_of caller) (address - 0xfee00000) len value else ring routing b.shape spaces.Memory address len value)
 
-      port_rings : (port len value : ℕ) → Rings (plan_on b caller (calls.PortOut port len value))
-      port_rings port len value = by_port (is_port port) refl
-        where
-          chip : Bool → Plan (Unit {0})
-          chip t = unless_refused (first_of (range_reasons b.shape (calls.PortOut port len value))) (if t then pair_write routing b.shape port len value else ring routing b.shape spaces.Port port len value)
+        by_address : (t u : Bool) → is_ioapic_address address ≡ t → is_lapic_address address ≡ u → TellsOnly (rung_on b (calls.Store address len value) ≡ Some counter) (plan_on b caller (calls.Store address len value))
+        by_address true u is at = silent (rung_on b (calls.Store address len value) ≡ Some counter) (calls.Store address len value) (inl (ap (λ t. t || is_lapic_address address) is))
+        by_address false true is at = silent (rung_on b (calls.Store address len value) ≡ Some counter) (calls.Store address len value) (inl (or_right (is_ioapic_address address) (is_lapic_address address) at))
+        by_address false false is at = subst (λ (x : Bool × Bool). TellsOnly ((if x.0 || x.1 then None else rings) ≡ Some counter) (chip x.0 x.1)) (λ i. (sym is i, sym at i))
+            (unless_tells (rings ≡ Some counter) (first_of (range_reasons b.shape (calls.Store address len value))) (ring routing b.shape spaces.Memory address len value) (rung_tells rings))
 
-          by_port : (t : Bool) → is_port port ≡ t → Rings (plan_on b caller (calls.PortOut port len value))
-          by_port true is = silent (calls.PortOut port len value) (inl is)
-          by_port false is = subst (λ (t : Bool). Rings (chip t)) (sym is) (unless_rings (first_of (range_reasons b.shape (calls.PortOut port len value))) (ring routing b.shape spaces.Port port len value) (ring_plainly spaces.Port port len value))
+    tick_silent : (P : Type 0) → TellsOnly P (plan_on b caller calls.Tick)
+    tick_silent P rang =
+        let during = with_part b parts.Tick (ticked b.tick) in
+        absurd (none_rang b.shape.tick (λ _. true) (run (plan_on b caller calls.Tick) b ws).log.events (tick_keeps routing b.shape false (λ _. true) (ticked b.tick) (tick_injects b.tick) during ws).follows rang)
 
-      store_rings : (address len value : ℕ) → Rings (plan_on b caller (calls.Store address len value))
-      store_rings address len value = by_address (is_ioapic_address address) (is_lapic_address address) refl refl
-        where
-          chip : Bool → Bool → Plan (Unit {0})
-          chip t u = unless_refused (first_of (range_reasons b.shape (calls.Store address len value)))
-              (if t then ioapic_store b.shape (address - 0xfec00000) len value else if u then lapic_store routing b.shape (number_of caller) (address - 0xfee00000) len value else ring routing b.shape spaces.Memory address len value)
-
-          by_address : (t u : Bool) → is_ioapic_address address ≡ t → is_lapic_address address ≡ u → Rings (plan_on b caller (calls.Store address len value))
-          by_address true u is at = silent (calls.Store address len value) (inl (ap (λ t. t || is_lapic_address address) is))
-          by_address false true is at = silent (calls.Store address len value) (inl (or_right (is_ioapic_address address) (is_lapic_address address) at))
-          by_address false false is at = subst (λ (t : Bool). Rings (chip t (is_lapic_address address))) (sym is) (subst (λ (u : Bool). Rings (chip false u)) (sym at)
-              (unless_rings (first_of (range_reasons b.shape (calls.Store address len value))) (ring routing b.shape spaces.Memory address len value) (ring_plainly spaces.Memory address len value)))
-
-      tick_silent : Rings (plan_on b caller calls.Tick)
-      tick_silent rang =
-          let during = with_part b parts.Tick (ticked b.tick) in
-          absurd (none_rang b.shape.tick (λ _. true) (run (plan_on b caller calls.Tick) b ws).log.events (tick_keeps routing b.shape false (λ _. true) (ticked b.tick) (tick_injects b.tick) during ws).follows rang)
-
-      -- whatever the call is
-      rings_plainly : (call : Call) → Rings (plan_on b caller call)
-      rings_plainly (calls.PortOut port len value) = port_rings port len value
-      rings_plainly (calls.Store address len value) = store_rings address len value
-      rings_plainly calls.Tick = tick_silent
-      rings_plainly (calls.TickMode reinject) = λ rang. absurd (no_member (Rang counter) rang)
-      rings_plainly (calls.Assign trigger gsi resample) = silent (calls.Assign trigger gsi resample) refl
-      rings_plainly call = silent call tt
+    -- whatever the call is
+    call_tells : (call : Call) → TellsOnly (rung_on b call ≡ Some counter) (plan_on b caller call)
+    call_tells (calls.PortOut port len value) = port_tells port len value
+    call_tells (calls.Store address len value) = store_tells address len value
+    call_tells calls.Tick = tick_silent (None ≡ Some counter)
+    call_tells (calls.TickMode reinject) = λ rang. absurd (no_member (Rang counter) rang)
+    call_tells (calls.Assign trigger gsi resample) = silent (None ≡ Some counter) (calls.Assign trigger gsi resample) refl
+    call_tells call = silent (rung_on b call ≡ Some counter) call tt
 
 -- ---- a step
 
 -- a step whose outcome is plain signals nothing
-signals_nothing : (counter : ℕ) (events : List Event) (b : Board) (e : Entry) (c : Board) (s : Step b e c) → Plainly counter events b (outcome_of b e s.wishes) → (e.events ≡ events) × SignalsNothing counter b e c
-signals_nothing counter events b e c s h = (
+signals_nothing : (counter : ℕ) (b : Board) (e : Entry) (c : Board) (s : Step b e c) → Plainly counter b (outcome_of b e s.wishes) → (e.events ≡ []) × SignalsNothing counter b e c
+signals_nothing counter b e c s h = (
   sym s.told ∙ h.told,
   record {
     reply = elim h.answers [
@@ -227,11 +265,43 @@ signals_nothing counter events b e c s h = (
   },
 )
 
+-- a call that publishes nothing is no publication, refused or not
+no_publication : (b : Board) (call : Call) → does_publish b call ≡ false → (refusal : Option Refusal) → publishes_unless refusal b call ≡ false
+no_publication b call quiet None = quiet
+no_publication b call quiet (Some refusal) = refl
+
+-- a guest write that rings is none
+rings_no_words : (counter : ℕ) (b : Board) (call : Call) → rung_on b call ≡ Some counter → would_publish b call ≡ false
+rings_no_words counter b (calls.PortOut port len value) is = no_publication b (calls.PortOut port len value) refl (refusal_of b (calls.PortOut port len value))
+rings_no_words counter b (calls.Store address len value) is = no_publication b (calls.Store address len value) refl (refusal_of b (calls.Store address len value))
+rings_no_words counter b _ is = cc
+
+-- a step whose outcome is a refusal alone, or a ring alone, is so
+module _ (counter : ℕ) (b : Board) (e : Entry) (c : Board) (s : Step b e c) where
+  refused_alone : rung_on b e.call ≡ Some counter → Refuses b (outcome_of b e s.wishes) → IsRefusedAlone b e c
+  refused_alone rings h = record {
+    refusal = h.refusal;
+    reply = last_answer [] (Refused h.refusal) e.reply (sym h.answers ∙ s.replied);
+    events = sym s.told ∙ h.told;
+    board = sym s.leads ∙ ap (λ t. with_counts t (outcome_of b e s.wishes).board) (rings_no_words counter b e.call rings) ∙ ap (with_counts false) h.same;
+  }
+
+  rings_alone : Rings counter b (outcome_of b e s.wishes) → RingsAlone counter b e c
+  rings_alone h = record {
+    reply = last_answer [] Done e.reply (sym h.answers ∙ s.replied);
+    events = sym s.told ∙ h.told;
+    changes = subst (λ (d : Board). ChangesCountAlone counter b d) s.leads (changes_counted counter (would_publish b e.call) b (outcome_of b e s.wishes).board h.changes);
+  }
+
 -- where the counter is no trigger
 signals_no_more : (counter : ℕ) (b : Board) (e : Entry) (c : Board) → Step b e c → is_trigger b.registry counter ≡ false → SignalsNoMore counter b e c
 signals_no_more counter b e c s off = record {
-  written = λ n is. signals_nothing counter [] b e c s (subst (λ (call : Call). Plainly counter [] b (run (plan_on b e.caller call) b s.wishes)) (sym is) (write_plainly counter b s.wishes off e.caller n));
-  rung = λ rang. signals_nothing counter (Rang counter ∷ []) b e c s (rings_plainly counter b s.wishes off e.caller e.call (subst (λ (events : List Event). Contains events (Rang counter)) (sym s.told) rang));
+  written = λ n is. signals_nothing counter b e c s (subst (λ (call : Call). Plainly counter b (run (plan_on b e.caller call) b s.wishes)) (sym is) (write_plainly counter b s.wishes off e.caller n));
+  rung = λ rings. elim (call_rings counter b s.wishes off e.caller e.call rings) [
+    | inl refused ↦ inl (refused_alone counter b e c s rings refused)
+    | inr rang ↦ inr (rings_alone counter b e c s rang)
+  ];
+  told = λ rang. call_tells counter b s.wishes e.caller e.call (subst (λ (events : List Event). Contains events (Rang counter)) (sym s.told) rang);
 }
 
 -- ---- a history

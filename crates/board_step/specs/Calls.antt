@@ -1,4 +1,4 @@
--- What each call does.
+-- What each call does (this board's own rule: one plan a call).
 use Rattle.std.specs.Prelude.{ℕ}
 use Rattle.irq_base.specs.declared.call.Call.{Call}
 use Rattle.irq_base.specs.declared.call.Call.TheVariants.{Line, Msi, Write, Take, Assign, Deassign, Reroute, Attach, Detach, Watch, Unwatch, Tick, TickMode, PortOut, PortIn, Store, Load, Ack, Inta, Eoi}

@@ -36,7 +36,7 @@ opening_pic = record { master = without_pins chip_at_power_on; slave = without_p
 abbrev pub opening_ioapic : IoapicPart
 opening_ioapic = record { entries = replicate 24 entry_at_power_on; selected = 0; identity = 0; holds = set.empty }
 
--- the board of a shape at power-on: each chip is as its data sheet says, no count stands, and ticks are reinjected
+-- the board of a shape at power-on: each chip is at its power-on, no count stands, and ticks are reinjected
 abbrev pub opening : Shape → Board
 opening shape = record {
   shape = shape;

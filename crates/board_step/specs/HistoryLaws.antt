@@ -1,13 +1,14 @@
--- What holds along every legal history.
-use Rattle.std.specs.Prelude.{◌≡◌, ◌≢◌, ℕ, ◌+◌, Bool, true, false, not, ◌&&◌, nat_eq, min, if◌then◌else◌, ◌⊎◌, List, [], ◌∷◌, ◌++◌, slice_get, option_map, All, IsTrue, Some, None}
+-- What holds along every legal history (over this board's own definitions).
+use Rattle.std.specs.Prelude.{◌≡◌, ◌≢◌, ℕ, ◌+◌, Bool, true, false, not, ◌&&◌, ◌||◌, nat_eq, min, if◌then◌else◌, ◌⊎◌, List, [], ◌∷◌, ◌++◌, slice_get, option_map, map, All, IsTrue, Some, None}
 use Rattle.std.specs.List.{Contains, list_any}
 use Rattle.std.specs.declared.option.Option.{Option}
 use Rattle.std.specs.FinSet as set
 use Rattle.irq_bits.specs.Members.{Numbers}
 use Rattle.irq_base.specs.declared.call.Call.{Call}
-use Rattle.irq_base.specs.declared.call.Call.TheVariants.{Line, Msi, Write, Assign, Deassign, Tick, TickMode, Ack}
+use Rattle.irq_base.specs.declared.call.Call.TheVariants.{Line, Msi, Write, Assign, Deassign, Tick, TickMode, PortOut, Store, Ack}
 use Rattle.irq_base.specs.declared.call.Caller.{Caller}
 use Rattle.irq_base.specs.declared.call.Caller.TheVariants.{Device, Cpu}
+use Rattle.irq_base.specs.declared.call.Space.TheVariants as spaces
 use Rattle.irq_base.specs.declared.event.Event.{Event}
 use Rattle.irq_base.specs.declared.event.Event.TheVariants.{Acked, Resampled, Watched, Rang, Injected}
 use Rattle.irq_base.specs.declared.event.Pin.{Pin}
@@ -28,7 +29,7 @@ use Rattle.irq_base.specs.declared.status.Cause.TheVariants.{Masked, NoProcessor
 use Rattle.irq_base.specs.declared.status.Status.{Status}
 use Rattle.irq_base.specs.declared.status.Status.TheVariants.{Coalesced, Ignored}
 use Rattle.pic_8259a.specs.declared.chip.PinOutcome.TheVariants as outcomes
-use Rattle.pic_8259a.specs.Pair.{pin_outcome}
+use Rattle.pic_8259a.specs.Pair.{pin_outcome, is_port}
 use Rattle.ioapic_82093aa.specs.declared.ioapic.Raise.{Raise}
 use Rattle.ioapic_82093aa.specs.declared.ioapic.Raise.TheVariants as raises
 use Rattle.ioapic_82093aa.specs.Pins.{raise_of}
@@ -37,6 +38,7 @@ use Rattle.msi_decode.specs.Messages.{message_in}
 use Rattle.source_levels.specs.Holds.{Holds, hold}
 use Rattle.event_counter.specs.Counters.{signalled_all}
 use Rattle.irqfd_set.specs.Rows.{has_resampler}
+use Rattle.ioevent_set.specs.Rows.{rung_by}
 use Rattle.ack_notifiers.specs.Rows.{watch_events}
 use Rattle.resampler.specs.Resample.{resample_events}
 use Rattle.route_table.specs.Pins.{gsi_of}
@@ -48,16 +50,18 @@ use Rattle.board_model.specs.Chips.{pair_of, ioapic_of}
 use Rattle.board_model.specs.Routing.{Routing, routing_of_registry}
 use Rattle.board_model.specs.Statuses.{TargetAnswer, newly_taken, stood_already, no_effect, first_cause}
 use Rattle.board_model.specs.Plan.{Plan, done, look, put, tell, answer, choose}
-use Rattle.board_model.specs.Run.{Sending, Wishes, next_wish, later_wishes}
+use Rattle.board_model.specs.Run.{Sending, Wishes, next_wish, later_wishes, run}
 use Rattle.board_model.specs.Following.{reached}
 use Rattle.board_raise.specs.Named.{Processor, MayReach}
 use Rattle.board_raise.specs.Send.{is_illegal}
 use Rattle.board_raise.specs.Signal.{pic_answer}
-use Rattle.board_raise.specs.Laws.{named_on, has_request_on}
+use Rattle.board_raise.specs.Laws.{named_on, HasProcessors, has_request_on}
+use Rattle.board_step.specs.Refusals.{is_ioapic_address, is_lapic_address}
 use Rattle.board_step.specs.Step.{plan_on, Step}
+use Rattle.board_step.specs.Sound.{LapicsStand}
 use Rattle.board_step.specs.History.{opening, Leads, wishes_shown, next_board, board_after}
 
--- a history of a board: entries, one entry, and the entries after it; the board before it and the board after it
+-- a point of a history: the entries before, one entry, and the entries after it
 pub record Point (shape : Shape) : Type 0 where
   pub before : List Entry
   pub entry : Entry
@@ -85,6 +89,10 @@ sendings_of (put p v rest) b ws = sendings_of rest (with_part b p v) ws
 sendings_of (tell x rest) b ws = sendings_of rest b ws
 sendings_of (answer r rest) b ws = sendings_of rest b ws
 sendings_of (choose m about g k) b ws = (b, record { heading = m; sent = g (next_wish ws) }) ∷ sendings_of (k (g (next_wish ws))) b (later_wishes ws)
+
+-- they are those that the log of the run shows, in order: none is left out
+abbrev pub SendingsAreLogged : Type 0 → Type 0
+SendingsAreLogged A = (m : Plan A) (b : Board) (ws : Wishes) → map (λ (made : Board × Sending). made.1) (sendings_of m b ws) ≡ (run m b ws).log.sendings
 
 -- whether a reply takes the request of a message: its vector, or an NMI
 abbrev pub takes_by : Message → Reply → Bool
@@ -221,9 +229,17 @@ pub record ChangesNoRequest (b : Board) (e : Entry) (c : Board) (status : Status
   pub said : IsSaidOf b targets status
   pub requests : SameRequests b c
 
--- so it is in each step
+-- so it is in each step from a board on which each processor has a local APIC with its number
 abbrev pub CoalescedAndIgnoredChangeNoRequest : Type 0
-CoalescedAndIgnoredChangeNoRequest = (b : Board) (e : Entry) (c : Board) (status : Status) → Step b e c → e.reply ≡ Signal status → is_without_effect status ≡ true → ChangesNoRequest b e c status
+CoalescedAndIgnoredChangeNoRequest = (b : Board) (e : Entry) (c : Board) (status : Status) → HasProcessors b b.shape.cpus → Step b e c → e.reply ≡ Signal status → is_without_effect status ≡ true → ChangesNoRequest b e c status
+
+-- a step keeps a local APIC for each processor, with its number
+abbrev pub LapicsStayInPlace : Type 0
+LapicsStayInPlace = (b : Board) (e : Entry) (c : Board) → LapicsStand b → Step b e c → LapicsStand c
+
+-- a status without effect is said of its targets and changes no request, in each entry of a legal history
+abbrev pub StatusesWithoutEffectChangeNoRequest : Type 0
+StatusesWithoutEffectChangeNoRequest = (shape : Shape) (p : Point shape) (status : Status) → IsLegal shape p → p.entry.reply ≡ Signal status → is_without_effect status ≡ true → ChangesNoRequest (board_at shape p) p.entry (board_left shape p) status
 
 -- ---- each acknowledge resamples once, in order
 
@@ -303,11 +319,31 @@ pub record SignalsNothing (counter : ℕ) (b : Board) (e : Entry) (c : Board) : 
   pub reply : (e.reply ≡ Done) ⊎ ((refusal : Refusal) × (e.reply ≡ Refused refusal))
   pub changes : ChangesCountAlone counter b c
 
--- from the end of an irqfd to the next of its trigger, a write of its counter tells no event and signals nothing, and a guest
--- write that rings it tells that alone
+-- the counter that a guest write rings: that of the ioeventfd which it fits, where it is to no chip
+abbrev pub rung_on : Board → Call → Option ℕ
+rung_on b (PortOut port len value) = if is_port port then None else rung_by b.registry.ioevents spaces.Port port len value
+rung_on b (Store address len value) = if is_ioapic_address address || is_lapic_address address then None else rung_by b.registry.ioevents spaces.Memory address len value
+rung_on b _ = None
+
+-- a call that is refused: it tells no event, and changes nothing but the count of calls
+pub record IsRefusedAlone (b : Board) (e : Entry) (c : Board) : Type 0 where
+  pub refusal : Refusal
+  pub reply : e.reply ≡ Refused refusal
+  pub events : e.events ≡ []
+  pub board : c ≡ record b { length = b.length + 1 }
+
+-- a guest write that rings a counter and signals nothing: it tells that alone, and changes the count of that counter alone
+pub record RingsAlone (counter : ℕ) (b : Board) (e : Entry) (c : Board) : Type 0 where
+  pub reply : e.reply ≡ Done
+  pub events : e.events ≡ Rang counter ∷ []
+  pub changes : ChangesCountAlone counter b c
+
+-- from the end of an irqfd to the next of its trigger, a write of its counter tells no event and signals nothing; a guest
+-- write that rings it is refused, or rings and signals nothing; and no other call tells that it rang
 pub record SignalsNoMore (counter : ℕ) (b : Board) (e : Entry) (c : Board) : Type 0 where
   pub written : (n : ℕ) → e.call ≡ Write counter n → (e.events ≡ []) × SignalsNothing counter b e c
-  pub rung : Contains e.events (Rang counter) → (e.events ≡ Rang counter ∷ []) × SignalsNothing counter b e c
+  pub rung : rung_on b e.call ≡ Some counter → IsRefusedAlone b e c ⊎ RingsAlone counter b e c
+  pub told : Contains e.events (Rang counter) → rung_on b e.call ≡ Some counter
 
 -- so it is in each legal history
 abbrev pub NoSignalOfDeassignedTrigger : Type 0

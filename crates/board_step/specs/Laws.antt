@@ -1,4 +1,4 @@
--- What holds of every step.
+-- What holds of every step (over this board's own definitions).
 use Rattle.std.specs.Prelude.{◌≡◌, ◌^◌, ◌<◌, ◌≤◌, All, true, false, List, [], ◌∷◌, length, Some, None}
 use Rattle.irq_base.specs.Callers.{is_allowed}
 use Rattle.irq_base.specs.declared.call.Call.{Call}
@@ -92,7 +92,7 @@ WordsStay = (b : Board) (e : Entry) (c : Board) → Step b e c → would_publish
 
 -- ---- refusals
 
--- a call that is refused, and no other, answers its refusal; it tells no event and changes nothing
+-- a call that is refused answers its refusal alone; it tells no event and changes nothing
 pub record RefusesRightly (b : Board) (caller : Caller) (call : Call) (ws : Wishes) (refusal : Refusal) : Type 0 where
   pub answers : (run (plan_on b caller call) b ws).log.answers ≡ Refused refusal ∷ []
   pub events : (run (plan_on b caller call) b ws).log.events ≡ []

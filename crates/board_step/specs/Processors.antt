@@ -31,7 +31,7 @@ all_pins = numbers_below 24
 abbrev pub pins_with : IoapicChip → ℕ → List Pin
 pins_with chip vector = map pins.Ioapic (filter (λ pin. has_vector chip pin vector) all_pins)
 
--- each pin of the I/O APIC whose entry has the vector that ended is acknowledged
+-- each pin of the I/O APIC whose entry has the vector that ended is acknowledged, edge or level (after KVM)
 abbrev pub end_vector : Routing → Shape → Option ℕ → Plan (Unit {0})
 end_vector routing shape None = done tt
 end_vector routing shape (Some vector) = do
@@ -88,7 +88,8 @@ give n apic = do
   put_part (Lapic n) (given apic (giveable_of apic))
   reply (given_reply (giveable_of apic))
 
--- whether LINT0 lets the pair through: it is not masked (bit 16), and its mode is ExtINT (bits 10 to 8 are 111)
+-- whether LINT0 lets the pair through: it is not masked (bit 16), and its mode is ExtINT (bits 10 to 8 are 111); SVR does not
+-- mask it (this board's own rule)
 abbrev pub lets_through : LocalApic → Bool
 lets_through apic = not (is_set apic.registers.lint0 16) && nat_eq (apic.registers.lint0 / 2 ^ 8 % 8) 7
 

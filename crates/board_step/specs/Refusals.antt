@@ -71,12 +71,12 @@ abbrev pub match_fits : Option ℕ → ℕ → Bool
 match_fits None len = true
 match_fits (Some value) len = not (nat_eq len 0) && does_fit value len
 
--- whether the addresses from this one on, so many, are all of the space; the first is, also where there are none
+-- whether the address is in the space, and so many addresses from it on do not pass the end of the space
 abbrev pub lies_within : Space → ℕ → ℕ → Bool
 lies_within space address len = nat_lt address (end_of space) && nat_le (address + len) (end_of space)
 
 -- an ioeventfd with a length that is neither 0 nor one of accesses, with a match that stands beside length 0 or does not fit,
--- or with an address past the end of its space (KVM_IOEVENTFD)
+-- or whose addresses pass the end of its space (KVM_IOEVENTFD)
 abbrev pub bad_ioevent : Space → ℕ → ℕ → Option ℕ → Reason
 bad_ioevent space address len want = (not ((nat_eq len 0 || is_length space len) && (match_fits want len && lies_within space address len)), BadRange)
 

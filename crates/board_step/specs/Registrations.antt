@@ -157,7 +157,8 @@ keeps_gsi before after pin = is_same_gsi (gsi_of before pin) (gsi_of after pin)
 abbrev pub kept_holds : Table → Table → (ℕ → Pin) → Holds → Holds
 kept_holds before after chip holds = set.retain holds (λ (h : Hold). keeps_gsi before after (chip h.pin))
 
--- the routing table is replaced (KVM_SET_GSI_ROUTING): each pin whose GSI is another than before loses all its holds
+-- the routing table is replaced (KVM_SET_GSI_ROUTING): each pin whose GSI is another than before loses all its holds, and
+-- nothing is raised (this board's own rule)
 abbrev pub reroute : List Row → Plan (Unit {0})
 reroute rows = do
   registry ← see Registry

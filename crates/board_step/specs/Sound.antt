@@ -1,4 +1,4 @@
--- What holds of every board that a legal history leads to.
+-- What holds of every board that a legal history leads to (this board's own rules and limits).
 use Rattle.std.specs.Prelude.{◌≡◌, ℕ, ◌-◌, ◌^◌, ◌<◌, ◌≤◌, false, length, slice_get, All, AllPairs, IsTrue, Some}
 use Rattle.std.specs.FinSet as set
 use Rattle.irq_base.specs.declared.event.Pin.{Pin}

@@ -40,7 +40,7 @@ refusal_of b call = first_of (range_reasons b.shape call ++ later_reasons b call
 
 -- ---- limits
 
--- the calls that change the published words, where they are not refused: a Deassign does where it removes a row
+-- the calls that count as publications, where they are not refused: a Deassign does where it removes a row
 abbrev pub does_publish : Board → Call → Bool
 does_publish b (Reroute rows) = true
 does_publish b (Assign trigger gsi resample) = true
@@ -49,7 +49,7 @@ does_publish b (Unwatch counter gsi) = true
 does_publish b (Deassign trigger gsi) = is_some (named_row b.registry.irqfds trigger gsi)
 does_publish b _ = false
 
--- a call that is refused changes no word
+-- a call that is refused counts as none
 abbrev pub publishes_unless : Option Refusal → Board → Call → Bool
 publishes_unless None b call = does_publish b call
 publishes_unless (Some refusal) b call = false

@@ -1,6 +1,11 @@
 //! The laws of legal histories: functions with no body, the contract of each being a law.
 
-ghost use Rattle.board_step.specs.HistoryLaws.{RequestsStayPending, EachAcknowledgeResamplesOnce, NoSignalOfDeassignedTrigger, TicksAreConserved, TicksInjectFree, OtherInjectionsFollowAcknowledges, OneInjectionOfAnIrqfd};
+ghost use Rattle.board_step.specs.HistoryLaws.{SendingsAreLogged, RequestsStayPending, EachAcknowledgeResamplesOnce, NoSignalOfDeassignedTrigger, TicksAreConserved, TicksInjectFree, OtherInjectionsFollowAcknowledges, OneInjectionOfAnIrqfd, CoalescedAndIgnoredChangeNoRequest, LapicsStayInPlace, StatusesWithoutEffectChangeNoRequest};
+
+/// A law: the sendings of a run that the next law speaks of are those that its log shows, in order.
+pub fn sendings_are_logged<A>()
+    ensures { SendingsAreLogged A }
+{}
 
 /// A law: in a legal history each sending reaches a set of processors that it may reach, and each of these has the request
 /// from then on, until it takes it by `Ack`.
@@ -15,8 +20,9 @@ pub fn each_acknowledge_resamples_once()
     ensures { EachAcknowledgeResamplesOnce }
 {}
 
-/// A law: from the end of an irqfd to the next of its trigger, a write of its counter, or a guest write that rings it, signals
-/// nothing: it tells no more than that it rang, and changes no more than the count.
+/// A law: from the end of an irqfd to the next of its trigger, a write of its counter, or a guest write that rings it by an
+/// ioeventfd, signals nothing: it is refused, or it tells no more than that it rang and changes no more than the count; and
+/// no other call tells that it rang.
 #[tactic(auto, using(crate::proofs::DeassignedSignals::no_signal_of_deassigned_trigger))]
 pub fn no_signal_of_deassigned_trigger()
     ensures { NoSignalOfDeassignedTrigger }
@@ -45,4 +51,21 @@ pub fn other_injections_follow_acknowledges()
 /// where the counter is the trigger of an irqfd, one injection of its GSI.
 pub fn one_injection_of_an_irqfd()
     ensures { OneInjectionOfAnIrqfd }
+{}
+
+/// A law: a reply that is Coalesced or Ignored answers a call with targets, and says what stood there or the cause; every IRR
+/// is as before. So it is in each step from a board on which each processor has a local APIC with its number.
+pub fn coalesced_and_ignored_change_no_request()
+    ensures { CoalescedAndIgnoredChangeNoRequest }
+{}
+
+/// A law: a step keeps a local APIC for each processor, with its number.
+pub fn lapics_stay_in_place()
+    ensures { LapicsStayInPlace }
+{}
+
+/// A law: in each entry of a legal history a reply that is Coalesced or Ignored answers a call with targets, and says what
+/// stood there or the cause; every IRR is as before.
+pub fn statuses_without_effect_change_no_request()
+    ensures { StatusesWithoutEffectChangeNoRequest }
 {}

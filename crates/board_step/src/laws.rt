@@ -23,7 +23,7 @@ pub fn answers_once()
     ensures { AnswersOnce }
 {}
 
-/// A law: on a sound board each call that is allowed to its caller, and that no limit bars, has a step: one reply, and at
+/// A law: on a sound board each call that is allowed to its caller, and that no limit bars, has a step with one reply and at
 /// most 560 events.
 #[tactic(auto, using(crate::proofs::CountingAnswers::always_answers))]
 pub fn always_answers()

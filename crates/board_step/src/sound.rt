@@ -13,7 +13,7 @@ pub fn steps_keep_sound()
     ensures { StepsKeepSound }
 {}
 
-/// A law: each board that a legal history of typed calls leads to is sound.
+/// A law: each board that a legal history of typed calls leads to is sound, where its shape is in limits.
 pub fn histories_keep_sound()
     ensures { HistoriesKeepSound }
 {}

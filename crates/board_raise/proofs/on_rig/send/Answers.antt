@@ -5,6 +5,7 @@ use Rattle.board_raise.specs.Send.{reached_by}
 use Rattle.board_model.specs.Following.{reached}
 use Rattle.board_raise.specs.OnRow.{sent_in}
 use Rattle.board_raise.proofs.Telling.{lacking_at, nobody_at, illegal_at, delivered_at, only_at, fits_still}
+use Rattle.board_raise.proofs.Lacking.{all_holds, lacks_reached}
 use Rattle.board_raise.proofs.on_rig.send.Goals as goal
 
 pub returns-in-Err-clause-does : goal.returns-in-Err-clause-does
@@ -14,6 +15,10 @@ returns-in-Err-clause-does g c = λ about.
     let after = g.R.Rig.with_held rig lent in
     lacking_at c.args.cpus c.args.message.now c.args.from (g.R.Rig.held rig) (g.R.Rig.wishes rig) (sym c.if-not-is_taken.ensures) about lent (g.R.Rig.held after) (g.R.Rig.wishes after) c.in-Err.lacks c.parts-parts.ensures.value c.in-Err.ensures.lacking
 
+pub returns-in-Err-clause-lacks : goal.returns-in-Err-clause-lacks
+returns-in-Err-clause-lacks g c =
+    lacks_reached c.args.cpus c.args.message.now c.args.from (g.R.Rig.held c.args.rig.now) (sym c.if-not-is_taken.ensures) c.parts-parts.result.now c.in-Err.lacks.part c.parts-parts.ensures.value c.in-Err.ensures.lacking
+
 pub returns-then-is_empty-clause-does : goal.returns-then-is_empty-clause-does
 returns-then-is_empty-clause-does g c = λ about.
     let rig = c.args.rig.now in
@@ -21,6 +26,10 @@ returns-then-is_empty-clause-does g c = λ about.
     let after = g.R.Rig.with_held rig lent in
     nobody_at c.args.cpus c.args.message.now c.args.from (g.R.Rig.held rig) (g.R.Rig.wishes rig) (sym c.if-not-is_taken.ensures) lent c.parts-parts.ensures.value c.in-Ok.ensures.lacking c.in-Ok.named.all c.in-Ok.ensures.named
     about (g.R.Rig.held after) (g.R.Rig.wishes after) (c.if-is_empty.ensures.0 refl) (g.met.R.Rig.held_with rig lent) (g.met.R.Rig.wishes_with rig lent)
+
+pub returns-then-is_empty-clause-reached : goal.returns-then-is_empty-clause-reached
+returns-then-is_empty-clause-reached g c =
+    all_holds c.args.cpus c.args.message.now c.args.from (g.R.Rig.held c.args.rig.now) c.parts-parts.result.now c.parts-parts.ensures.value c.in-Ok.ensures.lacking
 
 pub returns-then-is_illegal-clause-does : goal.returns-then-is_illegal-clause-does
 returns-then-is_illegal-clause-does g c = λ about.
@@ -32,6 +41,10 @@ returns-then-is_illegal-clause-does g c = λ about.
     illegal_at c.args.cpus c.args.message.now c.args.from (g.R.Rig.held rig) (g.R.Rig.wishes rig) (sym c.if-not-is_taken.ensures) lent c.parts-parts.ensures.value c.in-Ok.ensures.lacking c.in-Ok.named.all c.in-Ok.ensures.named
     (λ none. true≢false (sym (c.if-is_empty.ensures.1 none)))
     about (g.R.Rig.held after) row (g.R.Rig.wishes after) (sym c.if-is_illegal.ensures) c.record_illegal.ensures (g.met.R.Rig.held_with rig left) (g.met.R.Rig.wishes_with rig left)
+
+pub returns-then-is_illegal-clause-reached : goal.returns-then-is_illegal-clause-reached
+returns-then-is_illegal-clause-reached g c =
+    all_holds c.args.cpus c.args.message.now c.args.from (g.R.Rig.held c.args.rig.now) c.parts-parts.result.now c.parts-parts.ensures.value c.in-Ok.ensures.lacking
 
 pub returns-then-is_illegal-clause-kept : goal.returns-then-is_illegal-clause-kept
 returns-then-is_illegal-clause-kept g c =
@@ -65,6 +78,10 @@ returns-clause-does g c = λ about.
     c.deliver-reached.ensures.sent c.status_of.ensures c.deliver-reached.ensures.row
     (g.met.R.Rig.held_with asked left)
     (g.met.R.Rig.wishes_with asked left ∙ c.wish-wish.ensures.later ∙ ap later_wishes (g.met.R.Rig.wishes_with rig lent))
+
+pub returns-clause-reached : goal.returns-clause-reached
+returns-clause-reached g c =
+    all_holds c.args.cpus c.args.message.now c.args.from (g.R.Rig.held c.args.rig.now) c.parts-parts.result.now c.parts-parts.ensures.value c.in-Ok.ensures.lacking
 
 pub returns-clause-kept : goal.returns-clause-kept
 returns-clause-kept g c =
