@@ -1,12 +1,11 @@
 -- An irqfd that is made injects at most once, and one that is rung once.
-use Rattle.std.proofs.Common.{◌≡◌, ℕ, ◌-◌, Bool, true, false, true≢false, ◌||◌, inl, inr, nat_lt, if◌then◌else◌, List, [], ◌∷◌, slice_index, is_some, refl, sym, ap, subst, ◌∙◌, Some, None}
+use Rattle.std.proofs.Common.{◌≡◌, ℕ, ◌-◌, Bool, true, false, ◌||◌, ◌⊎◌, inl, inr, nat_lt, if◌then◌else◌, List, ◌∷◌, slice_index, is_some, refl, sym, ap, subst, Some, None}
 use Rattle.std.specs.List.{Contains}
 use Rattle.std.specs.declared.option.Option.{Option}
 use Rattle.irq_base.specs.Refusals.{first_of}
 use Rattle.irq_base.specs.declared.call.Call.{Call}
 use Rattle.irq_base.specs.declared.call.Call.TheVariants as calls
 use Rattle.irq_base.specs.declared.call.Caller.{Caller}
-use Rattle.irq_base.specs.declared.call.Space.{Space}
 use Rattle.irq_base.specs.declared.call.Space.TheVariants as spaces
 use Rattle.irq_base.specs.declared.event.Event.{Event}
 use Rattle.irq_base.specs.declared.event.Event.TheVariants.{Rang}
@@ -17,7 +16,6 @@ use Rattle.pic_8259a.specs.Pair.{is_port}
 use Rattle.event_counter.specs.Counters.{taken}
 use Rattle.irqfd_set.specs.Rows as irqfds
 use Rattle.ioevent_set.specs.Rows.{rung_by}
-use Rattle.tick_reinject.specs.Ticks.{ticked, tick_injects}
 use Rattle.board_model.specs.declared.trigger.TriggerWord.{TriggerWord}
 use Rattle.board_model.specs.Board.{Board, with_part}
 use Rattle.board_model.specs.Routing.{Routing, routing_of_registry}
@@ -26,22 +24,12 @@ use Rattle.board_model.specs.Run.{Wishes, run}
 use Rattle.board_raise.specs.Signal.{inject}
 use Rattle.board_step.specs.Refusals.{range_reasons, assign_reasons, is_ioapic_address, is_lapic_address}
 use Rattle.board_step.specs.Registrations.{unless_refused, source_of, inject_count, assigned, assign}
-use Rattle.board_step.specs.Accesses.{pair_write, ioapic_store, lapic_store, ring_counter, rung, ring}
+use Rattle.board_step.specs.Accesses.{port_out, store, pair_write, ioapic_store, lapic_store, ring_counter, rung, ring}
 use Rattle.board_step.specs.Calls.{number_of}
 use Rattle.board_step.specs.Step.{plan_on}
-use Rattle.board_step.specs.HistoryLaws.{InjectsAtMostOnce, RingsOnce, OneInjectionOfAnIrqfd}
-use Rattle.board_step.proofs.ConservingAcks.{or_right, allows, may_after, Following, quiet_conserving}
-use Rattle.board_step.proofs.ConservingCalls.{Lets, rung_quiet, call_keeps, tick_keeps}
+use Rattle.board_step.specs.HistoryLaws.{rung_on, InjectsAtMostOnce, RingsOnce, OneInjectionOfAnIrqfd}
 use Rattle.board_step.proofs.ConservingOnce.{injects_before, inject_injects}
-use Rattle.board_step.proofs.DeassignedSignals.{no_member, first_or_later}
-
--- what is no ring tells no such event
-nowhere : (counter tick : ℕ) (may : ℕ → Bool) (events : List Event) → Following tick false may events → Contains events (Rang counter) → ⊥
-nowhere counter tick may [] follows rang = no_member (Rang counter) rang
-nowhere counter tick may (x ∷ xs) follows rang = elim (first_or_later x (Rang counter) xs rang) [
-  | inl is ↦ true≢false (sym (ap (allows false may) is ∙ follows.0))
-  | inr later ↦ nowhere counter tick (may_after tick may x) xs follows.1 later
-]
+use Rattle.board_step.proofs.DeassignedSignals.{no_member, Refuses, call_tells, refused_alone}
 
 module _ (b : Board) (ws : Wishes) where
   abbrev routing : Routing
@@ -73,12 +61,13 @@ module _ (b : Board) (ws : Wishes) where
   -- ---- an ioeventfd is rung
 
   module _ (counter : ℕ) where
-    abbrev Rings : Plan (Unit {0}) → Type 0
-    Rings plan = Contains (run plan b ws).log.events (Rang counter) → RingsOnce counter (routing.trigger counter) (run plan b ws).log.events
+    -- a plan is refused, or tells what a ring does
+    abbrev RefusesOrRings : Plan (Unit {0}) → Type 0
+    RefusesOrRings plan = Refuses b (run plan b ws) ⊎ RingsOnce counter (routing.trigger counter) (run plan b ws).log.events
 
-    unless_rings : (refusal : Option Refusal) (plan : Plan (Unit {0})) → Rings plan → Rings (unless_refused refusal plan)
-    unless_rings None plan h rang = h rang
-    unless_rings (Some refusal) plan h rang = absurd (no_member (Rang counter) rang)
+    unless_rings : (refusal : Option Refusal) (plan : Plan (Unit {0})) → RefusesOrRings plan → RefusesOrRings (unless_refused refusal plan)
+    unless_rings None plan h = h
+    unless_rings (Some refusal) plan h = inl (record { refusal = refusal; told = refl; answers = refl; same = refl })
 
     own : (trigger : Option TriggerWord) → RingsOnce counter trigger (run (tell (Rang counter) (ring_counter routing b.shape counter trigger >> reply Done)) b ws).log.events
     own None = refl
@@ -88,64 +77,42 @@ module _ (b : Board) (ws : Wishes) where
         (inject_injects trigger.gsi b.shape.cpus (routing.targets trigger.gsi) (source_of trigger.resample)) (λ _ b ws. refl)) (λ _ b ws. refl) b ws in
         (one.0, ap (λ (l : List Event). Rang counter ∷ l) one.1)
 
-    rung_once : (k : Option ℕ) → Rings (rung routing b.shape k)
-    rung_once None rang = absurd (no_member (Rang counter) rang)
-    rung_once (Some k) rang = elim (first_or_later (Rang k) (Rang counter) (run after b ws).log.events rang) [
-      | inl is ↦ let same : counter ≡ k = cc in subst (λ (k : ℕ). RingsOnce counter (routing.trigger counter) (run (rung routing b.shape (Some k)) b ws).log.events) same (own (routing.trigger counter))
-      | inr later ↦ absurd (nowhere counter b.shape.tick (λ _. true) (run after b ws).log.events (quiet_conserving b.shape.tick false (λ _. true) after (rung_quiet (λ _. true) routing b.shape k (routing.trigger k) (λ _. refl)) b ws).follows later)
+    rung_rings : (k : Option ℕ) → k ≡ Some counter → RefusesOrRings (rung routing b.shape k)
+    rung_rings k is = subst (λ (k : Option ℕ). RefusesOrRings (rung routing b.shape k)) (sym is) (inr (own (routing.trigger counter)))
+
+    -- a write to a port
+    port_rings : (t : Bool) (port len value : ℕ) → (if t then None else rung_by b.registry.ioevents spaces.Port port len value) ≡ Some counter
+        → RefusesOrRings (if t then pair_write routing b.shape port len value else ring routing b.shape spaces.Port port len value)
+    port_rings true port len value is = cc
+    port_rings false port len value is = rung_rings (rung_by b.registry.ioevents spaces.Port port len value) is
+
+    -- a store to memory
+    store_rings : (t u : Bool) (n address len value : ℕ) → (if t || u then None else rung_by b.registry.ioevents spaces.Memory address len value) ≡ Some counter
+        → RefusesOrRings (if t then ioapic_store b.shape (address - 0xfec00000) len value else if u then lapic_store routing b.shape n (address - 0xfee00000) len value else ring routing b.shape spaces.Memory address len value)
+    store_rings true u n address len value is = cc
+    store_rings false true n address len value is = cc
+    store_rings false false n address len value is = rung_rings (rung_by b.registry.ioevents spaces.Memory address len value) is
+
+    call_rings : (caller : Caller) (call : Call) → rung_on b call ≡ Some counter → RefusesOrRings (plan_on b caller call)
+    call_rings caller (calls.PortOut port len value) is = unless_rings (first_of (range_reasons b.shape (calls.PortOut port len value))) (port_out routing b.shape port len value) (port_rings (is_port port) port len value is)
+    call_rings caller (calls.Store address len value) is = unless_rings (first_of (range_reasons b.shape (calls.Store address len value))) (store routing b.shape (number_of caller) address len value) (store_rings (is_ioapic_address address) (is_lapic_address address) (number_of caller) address len value is)
+    call_rings caller _ is = cc
+
+    -- an event that it rang is told by the write that rings it
+    call_once : (caller : Caller) (call : Call) → Contains (run (plan_on b caller call) b ws).log.events (Rang counter) → RingsOnce counter (routing.trigger counter) (run (plan_on b caller call) b ws).log.events
+    call_once caller call rang = elim (call_rings caller call (call_tells counter b ws caller call rang)) [
+      | inl refused ↦ absurd (no_member (Rang counter) (subst (λ (events : List Event). Contains events (Rang counter)) refused.told rang))
+      | inr once ↦ once
     ]
-      where
-        after : Plan (Unit {0})
-        after = ring_counter routing b.shape k (routing.trigger k) >> reply Done
-
-    ring_once : (space : Space) (address len value : ℕ) → Rings (ring routing b.shape space address len value)
-    ring_once space address len value = rung_once (rung_by b.registry.ioevents space address len value)
-
-    module _ (caller : Caller) where
-      -- a call that needs ring nothing
-      silent : (call : Call) → Lets false (λ _. true) call → Rings (plan_on b caller call)
-      silent call lets rang = absurd (nowhere counter b.shape.tick (λ _. true) (run (plan_on b caller call) b ws).log.events (call_keeps routing b.shape false (λ _. true) caller call lets b ws).follows rang)
-
-      port_rings : (port len value : ℕ) → Rings (plan_on b caller (calls.PortOut port len value))
-      port_rings port len value = by_port (is_port port) refl
-        where
-          chip : Bool → Plan (Unit {0})
-          chip t = unless_refused (first_of (range_reasons b.shape (calls.PortOut port len value))) (if t then pair_write routing b.shape port len value else ring routing b.shape spaces.Port port len value)
-
-          by_port : (t : Bool) → is_port port ≡ t → Rings (plan_on b caller (calls.PortOut port len value))
-          by_port true is = silent (calls.PortOut port len value) (inl is)
-          by_port false is = subst (λ (t : Bool). Rings (chip t)) (sym is) (unless_rings (first_of (range_reasons b.shape (calls.PortOut port len value))) (ring routing b.shape spaces.Port port len value) (ring_once spaces.Port port len value))
-
-      store_rings : (address len value : ℕ) → Rings (plan_on b caller (calls.Store address len value))
-      store_rings address len value = by_address (is_ioapic_address address) (is_lapic_address address) refl refl
-        where
-          chip : Bool → Bool → Plan (Unit {0})
-          chip t u = unless_refused (first_of (range_reasons b.shape (calls.Store address len value)))
-              (if t then ioapic_store b.shape (address - 0xfec00000) len value else if u then lapic_store routing b.shape (number_of caller) (address - 0xfee00000) len value else ring routing b.shape spaces.Memory address len value)
-
-          by_address : (t u : Bool) → is_ioapic_address address ≡ t → is_lapic_address address ≡ u → Rings (plan_on b caller (calls.Store address len value))
-          by_address true u is at = silent (calls.Store address len value) (inl (ap (λ t. t || is_lapic_address address) is))
-          by_address false true is at = silent (calls.Store address len value) (inl (or_right (is_ioapic_address address) (is_lapic_address address) at))
-          by_address false false is at = subst (λ (t : Bool). Rings (chip t (is_lapic_address address))) (sym is) (subst (λ (u : Bool). Rings (chip false u)) (sym at)
-              (unless_rings (first_of (range_reasons b.shape (calls.Store address len value))) (ring routing b.shape spaces.Memory address len value) (ring_once spaces.Memory address len value)))
-
-      tick_silent : Rings (plan_on b caller calls.Tick)
-      tick_silent rang =
-          absurd (nowhere counter b.shape.tick (λ _. true) (run (plan_on b caller calls.Tick) b ws).log.events (tick_keeps routing b.shape false (λ _. true) (ticked b.tick) (tick_injects b.tick) (with_part b parts.Tick (ticked b.tick)) ws).follows rang)
-
-      -- whatever the call is
-      call_rings : (call : Call) → Rings (plan_on b caller call)
-      call_rings (calls.PortOut port len value) = port_rings port len value
-      call_rings (calls.Store address len value) = store_rings address len value
-      call_rings calls.Tick = tick_silent
-      call_rings (calls.TickMode reinject) = λ rang. absurd (no_member (Rang counter) rang)
-      call_rings (calls.Assign trigger gsi resample) = silent (calls.Assign trigger gsi resample) refl
-      call_rings call = silent call tt
 
 pub one_injection_of_an_irqfd : OneInjectionOfAnIrqfd
 one_injection_of_an_irqfd b e c s = record {
   made = λ trigger gsi resample is. subst (λ (events : List Event). InjectsAtMostOnce gsi events) s.told
       (subst (λ (call : Call). InjectsAtMostOnce gsi (run (plan_on b e.caller call) b s.wishes).log.events) (sym is) (assign_makes b s.wishes e.caller trigger gsi resample));
-  rung = λ counter rang. subst (λ (events : List Event). Contains events (Rang counter) → RingsOnce counter ((routing_of_registry b.registry b.shape.tick).trigger counter) events) s.told
-      (call_rings b s.wishes counter e.caller e.call) rang;
+  rung = λ counter rings. elim (call_rings b s.wishes counter e.caller e.call rings) [
+    | inl refused ↦ inl (refused_alone counter b e c s rings refused)
+    | inr once ↦ inr (subst (λ (events : List Event). RingsOnce counter ((routing_of_registry b.registry b.shape.tick).trigger counter) events) s.told once)
+  ];
+  told = λ counter rang. subst (λ (events : List Event). Contains events (Rang counter) → (rung_on b e.call ≡ Some counter) × RingsOnce counter ((routing_of_registry b.registry b.shape.tick).trigger counter) events) s.told
+      (λ there. (call_tells counter b s.wishes e.caller e.call there, call_once b s.wishes counter e.caller e.call there)) rang;
 }

@@ -76,11 +76,11 @@ record Plainly (counter : ℕ) (b : Board) (o : Outcome (Unit {0})) : Type 0 whe
   changes : ChangesCountAlone counter b o.board
 
 -- an outcome is a refusal alone
-record Refuses (b : Board) (o : Outcome (Unit {0})) : Type 0 where
-  refusal : Refusal
-  told : o.log.events ≡ []
-  answers : o.log.answers ≡ Refused refusal ∷ []
-  same : o.board ≡ b
+pub record Refuses (b : Board) (o : Outcome (Unit {0})) : Type 0 where
+  pub refusal : Refusal
+  pub told : o.log.events ≡ []
+  pub answers : o.log.answers ≡ Refused refusal ∷ []
+  pub same : o.board ≡ b
 
 -- an outcome tells that it rings the counter, and changes its count alone
 record Rings (counter : ℕ) (b : Board) (o : Outcome (Unit {0})) : Type 0 where
@@ -242,7 +242,7 @@ module _ (counter : ℕ) (b : Board) (ws : Wishes) where
         absurd (none_rang b.shape.tick (λ _. true) (run (plan_on b caller calls.Tick) b ws).log.events (tick_keeps routing b.shape false (λ _. true) (ticked b.tick) (tick_injects b.tick) during ws).follows rang)
 
     -- whatever the call is
-    call_tells : (call : Call) → TellsOnly (rung_on b call ≡ Some counter) (plan_on b caller call)
+    pub call_tells : (call : Call) → TellsOnly (rung_on b call ≡ Some counter) (plan_on b caller call)
     call_tells (calls.PortOut port len value) = port_tells port len value
     call_tells (calls.Store address len value) = store_tells address len value
     call_tells calls.Tick = tick_silent (None ≡ Some counter)
@@ -278,7 +278,7 @@ rings_no_words counter b _ is = cc
 
 -- a step whose outcome is a refusal alone, or a ring alone, is so
 module _ (counter : ℕ) (b : Board) (e : Entry) (c : Board) (s : Step b e c) where
-  refused_alone : rung_on b e.call ≡ Some counter → Refuses b (outcome_of b e s.wishes) → IsRefusedAlone b e c
+  pub refused_alone : rung_on b e.call ≡ Some counter → Refuses b (outcome_of b e s.wishes) → IsRefusedAlone b e c
   refused_alone rings h = record {
     refusal = h.refusal;
     reply = last_answer [] (Refused h.refusal) e.reply (sym h.answers ∙ s.replied);

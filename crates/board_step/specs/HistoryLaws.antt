@@ -449,11 +449,13 @@ abbrev pub RingsOnce : ℕ → Option TriggerWord → List Event → Type 0
 RingsOnce counter None events = events ≡ Rang counter ∷ []
 RingsOnce counter (Some trigger) events = (status : Status) × (events ≡ Rang counter ∷ Injected trigger.gsi status ∷ [])
 
--- an irqfd that is made injects at most once, and one that is rung once: no more is told
-pub record InjectsOnce (b : Board) (e : Entry) : Type 0 where
+-- an irqfd that is made injects at most once; a guest write that rings is refused, or rings and injects at most once; and what
+-- rang was rung by the write
+pub record InjectsOnce (b : Board) (e : Entry) (c : Board) : Type 0 where
   pub made : (trigger gsi : ℕ) (resample : Option ℕ) → e.call ≡ Assign trigger gsi resample → InjectsAtMostOnce gsi e.events
-  pub rung : (counter : ℕ) → Contains e.events (Rang counter) → RingsOnce counter ((routing_of_registry b.registry b.shape.tick).trigger counter) e.events
+  pub rung : (counter : ℕ) → rung_on b e.call ≡ Some counter → IsRefusedAlone b e c ⊎ RingsOnce counter ((routing_of_registry b.registry b.shape.tick).trigger counter) e.events
+  pub told : (counter : ℕ) → Contains e.events (Rang counter) → (rung_on b e.call ≡ Some counter) × RingsOnce counter ((routing_of_registry b.registry b.shape.tick).trigger counter) e.events
 
 -- so it is in each step
 abbrev pub OneInjectionOfAnIrqfd : Type 0
-OneInjectionOfAnIrqfd = (b : Board) (e : Entry) (c : Board) → Step b e c → InjectsOnce b e
+OneInjectionOfAnIrqfd = (b : Board) (e : Entry) (c : Board) → Step b e c → InjectsOnce b e c

@@ -47,8 +47,9 @@ pub fn other_injections_follow_acknowledges()
     ensures { OtherInjectionsFollowAcknowledges }
 {}
 
-/// A law: an entry that makes an irqfd tells no event or one injection of its GSI; one that rings an ioeventfd tells that, and
-/// where the counter is the trigger of an irqfd, one injection of its GSI.
+/// A law: an entry that makes an irqfd tells no event or one injection of its GSI. A guest write that rings an ioeventfd is
+/// refused, or tells that it rang and, where the counter is the trigger of an irqfd, one injection of its GSI; and no other
+/// entry tells that a counter rang.
 pub fn one_injection_of_an_irqfd()
     ensures { OneInjectionOfAnIrqfd }
 {}
