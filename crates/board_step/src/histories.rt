@@ -1,6 +1,6 @@
 //! The laws of legal histories: functions with no body, the contract of each being a law.
 
-ghost use Rattle.board_step.specs.HistoryLaws.{SendingsAreLogged, RequestsStayPending, EachAcknowledgeResamplesOnce, NoSignalOfDeassignedTrigger, TicksAreConserved, TicksInjectFree, OtherInjectionsFollowAcknowledges, CoalescedAndIgnoredChangeNoRequest, LapicsStayInPlace, StatusesWithoutEffectChangeNoRequest};
+ghost use Rattle.board_step.specs.HistoryLaws.{SendingsAreLogged, RequestsStayPending, EachAcknowledgeResamplesOnce, NoSignalOfDeassignedTrigger, TicksAreConserved, TicksInjectFree, OtherInjectionsFollowAcknowledges, CoalescedAndIgnoredChangeNoRequest, LapicsStayInPlace, StatusesWithoutEffectChangeNoRequest, PicPinsHaveTheirLines, IgnoredMaskedIsMasked};
 
 /// A law: the sendings of a run that the next law speaks of are those that its log shows, in order.
 pub fn sendings_are_logged<A>()
@@ -62,4 +62,17 @@ pub fn lapics_stay_in_place()
 /// stood there or the cause; every IRR is as before.
 pub fn statuses_without_effect_change_no_request()
     ensures { StatusesWithoutEffectChangeNoRequest }
+{}
+
+/// A law: each of the 16 pins of the 8259A pair is on the line of its own number.
+#[tactic(auto, using(crate::proofs::EffectStood::pic_pins_have_their_lines))]
+pub fn pic_pins_have_their_lines()
+    ensures { PicPinsHaveTheirLines }
+{}
+
+/// A law: in a legal history a reply that is Ignored for the cause Masked answers a call with a target whose pin was masked, by
+/// the IMR of its 8259A or by its redirection entry.
+#[tactic(auto, using(crate::proofs::EffectHistories::ignored_masked_is_masked))]
+pub fn ignored_masked_is_masked()
+    ensures { IgnoredMaskedIsMasked }
 {}
