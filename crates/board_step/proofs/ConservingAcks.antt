@@ -31,6 +31,7 @@ use Rattle.board_raise.specs.Signal.{is_accepted, accept_pin, let_go, inject}
 use Rattle.board_ack.specs.Ticks.{inject_tick, inject_next, acknowledge_tick}
 use Rattle.board_ack.specs.Acknowledge.{say_each, signal_each, resample, notify, resample_and_notify, tell_concerned, resend, clear_and_resend, end_level, end_tick, acknowledge, acknowledge_each}
 use Rattle.board_step.specs.HistoryLaws.{is_ack_of, acks_in}
+use Rattle.board_step.proofs.ConservingOnce.{injects_before, inject_injects}
 use Rattle.board_step.proofs.ConservingQuiet.{is_quiet, shows_quietly, Quiet, quiet_bind, accept_pin_quiet, send_quiet, let_go_quiet, inject_quiet}
 
 -- ---- the injections that events may tell
@@ -58,11 +59,37 @@ abbrev AreQuiet : (ℕ → Bool) → List Event → Type 0
 AreQuiet may [] = Unit {0}
 AreQuiet may (event ∷ events) = (is_quiet may event ≡ true) × AreQuiet may events
 
+-- ---- each acknowledge lets one injection come
+
+-- whether an event is that of an ioeventfd
+abbrev pub is_rang : Event → Bool
+is_rang (Rang counter) = true
+is_rang _ = false
+
+-- whether an injection of the tick is due after an event: an acknowledge of its GSI makes it due, another acknowledge or an
+-- injection ends that
+abbrev pub due_after : ℕ → Bool → Event → Bool
+due_after tick due (Acked pin None) = false
+due_after tick due (Acked pin (Some gsi)) = nat_eq gsi tick
+due_after tick due (Injected gsi status) = false
+due_after tick due _ = due
+
+-- whether an event may come where these GSIs may be injected, and the tick where it is due
+abbrev pub admits : ℕ → (ℕ → Bool) → Bool → Event → Bool
+admits tick may due (Injected gsi status) = may gsi || (due && nat_eq gsi tick)
+admits tick may due _ = true
+
+-- each event may come after those before it, until an ioeventfd is rung
+abbrev pub Singly : ℕ → (ℕ → Bool) → Bool → List Event → Type 0
+Singly tick may due [] = Unit {0}
+Singly tick may due (event ∷ events) = (admits tick may due event ≡ true) × (is_rang event ≡ false → Singly tick may (due_after tick due event) events)
+
 -- an outcome takes so many ticks off besides those of the acknowledges that it tells, and tells what may come
 pub record Conserves {A : Type 0} (tick : ℕ) (rings : Bool) (may : ℕ → Bool) (taken : ℕ) (b : Board) (o : Outcome A) : Type 0 where
   pub reinjects : o.board.tick.reinjects ≡ b.tick.reinjects
   pub pending : b.tick.reinjects ≡ true → o.board.tick.pending ≡ b.tick.pending - (taken + acks_in tick o.log.events)
   pub follows : Following tick rings may o.log.events
+  pub singly : Singly tick may false o.log.events
 
 pub acks_append : (gsi : ℕ) (xs ys : List Event) → acks_in gsi (xs ++ ys) ≡ acks_in gsi xs + acks_in gsi ys
 acks_append gsi [] ys = omega arith
@@ -83,6 +110,52 @@ or_left false c h = cc
 pub or_right : (a c : Bool) → c ≡ true → (a || c) ≡ true
 or_right true c h = refl
 or_right false c h = h
+
+module _ (tick : ℕ) (may : ℕ → Bool) where
+  -- what may come where no tick is due may come where one is
+  singly_due : (due : Bool) (events : List Event) → Singly tick may false events → Singly tick may due events
+  singly_due due [] h = tt
+  singly_due due (Acked pin None ∷ xs) h = h
+  singly_due due (Acked pin (Some gsi) ∷ xs) h = h
+  singly_due due (Resampled counter ∷ xs) h = (refl, λ quiet. singly_due due xs (h.1 quiet))
+  singly_due due (Watched counter ∷ xs) h = (refl, λ quiet. singly_due due xs (h.1 quiet))
+  singly_due due (Rang counter ∷ xs) h = (refl, λ quiet. singly_due due xs (h.1 quiet))
+  singly_due due (Injected gsi status ∷ xs) h = (wider (may gsi) (due && nat_eq gsi tick) h.0, h.1)
+    where
+      wider : (a b : Bool) → (a || false) ≡ true → (a || b) ≡ true
+      wider true b h = refl
+      wider false b h = cc
+  singly_due due (Resent pin status ∷ xs) h = (refl, λ quiet. singly_due due xs (h.1 quiet))
+  singly_due due (Ipi status ∷ xs) h = (refl, λ quiet. singly_due due xs (h.1 quiet))
+
+  singly_append : (due : Bool) (xs ys : List Event) → Singly tick may due xs → Singly tick may false ys → Singly tick may due (xs ++ ys)
+  singly_append due [] ys h later = singly_due due ys later
+  singly_append due (x ∷ xs) ys h later = (h.0, λ quiet. singly_append (due_after tick due x) xs ys (h.1 quiet) later)
+
+  -- events that are quiet
+  quiet_singly : (due : Bool) (events : List Event) → AreQuiet may events → Singly tick may due events
+  quiet_singly due [] h = tt
+  quiet_singly due (x ∷ xs) h = (one x h.0, λ _. quiet_singly (due_after tick due x) xs h.1)
+    where
+      one : (x : Event) → is_quiet may x ≡ true → admits tick may due x ≡ true
+      one (Acked pin gsi) h = refl
+      one (Rang counter) h = refl
+      one (Resampled counter) h = refl
+      one (Watched counter) h = refl
+      one (Injected gsi status) h = or_left (may gsi) (due && nat_eq gsi tick) h
+      one (Resent pin status) h = refl
+      one (Ipi status) h = refl
+
+  -- events of which none injects come before
+  silent_singly : (due : Bool) (xs ys : List Event) → AreQuiet (λ _. false) xs → Singly tick may due ys → Singly tick may due (xs ++ ys)
+  silent_singly due [] ys h later = later
+  silent_singly due (Acked pin gsi ∷ xs) ys h later = let never : false ≡ true = h.0 in cc
+  silent_singly due (Rang counter ∷ xs) ys h later = let never : false ≡ true = h.0 in cc
+  silent_singly due (Injected gsi status ∷ xs) ys h later = let never : false ≡ true = h.0 in cc
+  silent_singly due (Resampled counter ∷ xs) ys h later = (refl, λ _. silent_singly due xs ys h.1 later)
+  silent_singly due (Watched counter ∷ xs) ys h later = (refl, λ _. silent_singly due xs ys h.1 later)
+  silent_singly due (Resent pin status ∷ xs) ys h later = (refl, λ _. silent_singly due xs ys h.1 later)
+  silent_singly due (Ipi status ∷ xs) ys h later = (refl, λ _. silent_singly due xs ys h.1 later)
 
 module _ (tick : ℕ) (rings : Bool) where
   after_more : (may more : ℕ → Bool) (event : Event) → ((g : ℕ) → may g ≡ true → more g ≡ true) → (g : ℕ) → may_after tick may event g ≡ true → may_after tick more event g ≡ true
@@ -234,6 +307,7 @@ module _ (tick : ℕ) (rings : Bool) (may : ℕ → Bool) where
         reinjects = ap (λ (s : TickState). s.reinjects) o.0;
         pending = λ _. none ((run m b ws).board.tick.pending) b.tick.pending (acks_in tick (run m b ws).log.events) (ap (λ (s : TickState). s.pending) o.0) told.0;
         follows = told.1;
+        singly = quiet_singly tick may false (run m b ws).log.events o.1;
       }
     where
       none : (left was acks : ℕ) → left ≡ was → acks ≡ 0 → left ≡ was - (0 + acks)
@@ -249,6 +323,7 @@ module _ (tick : ℕ) (rings : Bool) (may : ℕ → Bool) where
         reinjects = later.reinjects ∙ first.reinjects;
         pending = λ on. sum r.board.tick.pending o.board.tick.pending b.tick.pending (acks_in tick o.log.events) (acks_in tick r.log.events) (acks_in tick (o.log.events ++ r.log.events)) (later.pending (first.reinjects ∙ on)) (first.pending on) (acks_append tick o.log.events r.log.events);
         follows = following_append tick rings may o.log.events r.log.events first.follows later.follows;
+        singly = singly_append tick may false o.log.events r.log.events first.singly later.singly;
       } in
       subst (λ (q : Outcome B). Conserves tick rings may (i + j) b q) (sym (run-bind f m b ws)) both
     where
@@ -259,7 +334,7 @@ module _ (tick : ℕ) (rings : Bool) (may : ℕ → Bool) where
   pub bind_conserving : {A B : Type 0} (taken : ℕ) (f : A → Plan B) (m : Plan A) → Conserving tick rings may 0 m → ((a : A) → Conserving tick rings may taken (f a)) → Conserving tick rings may taken (m >>= f)
   bind_conserving {A} {B} taken f m first next = λ b ws.
       let r = then_conserves 0 taken f m b ws (first b ws) next in
-      record { reinjects = r.reinjects; pending = λ on. same (run (m >>= f) b ws).board.tick.pending b.tick.pending (acks_in tick (run (m >>= f) b ws).log.events) (r.pending on); follows = r.follows }
+      record { reinjects = r.reinjects; pending = λ on. same (run (m >>= f) b ws).board.tick.pending b.tick.pending (acks_in tick (run (m >>= f) b ws).log.events) (r.pending on); follows = r.follows; singly = r.singly }
     where
       same : (left was acks : ℕ) → left ≡ was - (0 + taken + acks) → left ≡ was - (taken + acks)
       same left was acks e = omega (arith, e)
@@ -272,6 +347,7 @@ module _ (tick : ℕ) (rings : Bool) (may : ℕ → Bool) where
         reinjects = r.reinjects ∙ same;
         pending = λ on. sum (run m (with_part b parts.Tick v) ws).board.tick.pending v.pending b.tick.pending (acks_in tick (run m (with_part b parts.Tick v) ws).log.events) (r.pending (same ∙ on)) (less on);
         follows = r.follows;
+        singly = r.singly;
       }
     where
       sum : (last mid was acks : ℕ) → last ≡ mid - (0 + acks) → mid ≡ was - taken → last ≡ was - (taken + acks)
@@ -317,6 +393,46 @@ module _ (routing : Routing) (shape : Shape) (rings : Bool) where
       or_same : (t : Bool) (n : ℕ) → (t || nat_eq n n) ≡ true
       or_same t n = grind arith
 
+  -- ---- after its acknowledge the tick is injected once at most
+
+  -- a plan tells what may come
+  abbrev DueSingly : {A : Type 0} → (ℕ → Bool) → Bool → Plan A → Type 0
+  DueSingly may due m = (b : Board) (ws : Wishes) → Singly shape.tick may due (run m b ws).log.events
+
+  silent_then : {A B : Type 0} (may : ℕ → Bool) (due : Bool) (f : A → Plan B) (m : Plan A) → Quiet (λ _. false) m → ((a : A) → DueSingly may due (f a)) → DueSingly may due (m >>= f)
+  silent_then {A} {B} may due f m quiet next = λ b ws.
+      let o = run m b ws in
+      subst (λ (q : Outcome B). Singly shape.tick may due q.log.events) (sym (run-bind f m b ws))
+      (silent_singly shape.tick may due o.log.events (run (f o.value) o.board o.wishes).log.events (run_quiet (λ _. false) m b ws quiet).1 (next o.value o.board o.wishes))
+
+  inject_singly : (may : ℕ → Bool) → DueSingly may true (inject_tick routing shape (λ pic. injected shape.tick pic))
+  inject_singly may = λ b ws.
+      let one = injects_before shape.tick (λ status. change parts.Tick (λ tick. tick_injected tick status)) (inject shape.cpus (routing.targets shape.tick) TickSource (λ pic. injected shape.tick pic))
+      (inject_injects shape.tick shape.cpus (routing.targets shape.tick) TickSource) (λ status b ws. refl) b ws in
+      subst (λ (events : List Event). Singly shape.tick may true events) (sym one.1) (or_right (may shape.tick) (nat_eq shape.tick shape.tick) (same shape.tick), λ _. tt)
+    where
+      same : (n : ℕ) → nat_eq n n ≡ true
+      same n = grind arith
+
+  next_singly : (may : ℕ → Bool) (injects : Bool) → DueSingly may true (inject_next routing shape injects)
+  next_singly may true = inject_singly may
+  next_singly may false = λ b ws. tt
+
+  end_tick_singly : (may : ℕ → Bool) (pin : Pin) (gsi : Option ℕ) → DueSingly may (due_after shape.tick false (Acked pin gsi)) (end_tick routing shape gsi)
+  end_tick_singly may pin None = λ b ws. tt
+  end_tick_singly may pin (Some gsi) = elim (nat_eq gsi shape.tick) as (λ t. DueSingly may t (if t then acknowledge_tick routing shape else done tt)) [
+    | true ↦ λ b ws. next_singly may (ack_injects b.tick) (with_part b parts.Tick (tick_acked b.tick)) ws
+    | false ↦ λ b ws. tt
+  ]
+
+  acknowledged_singly : (may : ℕ → Bool) (pin : Pin) (gsi : Option ℕ) → DueSingly may (due_after shape.tick false (Acked pin gsi)) (tell_concerned routing gsi >> (end_level shape.cpus pin >> end_tick routing shape gsi))
+  acknowledged_singly may pin gsi =
+      let due = due_after shape.tick false (Acked pin gsi) in
+      silent_then may due (λ _. end_level shape.cpus pin >> end_tick routing shape gsi) (tell_concerned routing gsi) (tell_quiet (λ _. false) routing gsi)
+      (λ _. silent_then may due (λ _. end_tick routing shape gsi) (end_level shape.cpus pin) (level_quiet (λ _. false) shape.cpus pin) (λ _. end_tick_singly may pin gsi))
+
+  -- ---- a whole acknowledge
+
   acknowledge_conserving : (may : ℕ → Bool) (pin : Pin) → Conserving shape.tick rings may 0 (acknowledge routing shape pin)
   acknowledge_conserving may pin = λ b ws.
       let gsi = routing.gsi_of pin in
@@ -326,7 +442,7 @@ module _ (routing : Routing) (shape : Shape) (rings : Bool) where
       let taken = is_ack_of shape.tick (Acked pin gsi) in
       let r = bind_conserving shape.tick rings after taken f m (quiet_conserving shape.tick rings after m (tell_quiet after routing gsi))
       (λ _. bind_conserving shape.tick rings after taken (λ _. end_tick routing shape gsi) (end_level shape.cpus pin) (quiet_conserving shape.tick rings after (end_level shape.cpus pin) (level_quiet after shape.cpus pin)) (λ _. end_tick_conserving may pin gsi)) b ws in
-      record { reinjects = r.reinjects; pending = λ on. same (run (m >>= f) b ws).board.tick.pending b.tick.pending taken (acks_in shape.tick (run (m >>= f) b ws).log.events) (r.pending on); follows = (refl, r.follows) }
+      record { reinjects = r.reinjects; pending = λ on. same (run (m >>= f) b ws).board.tick.pending b.tick.pending taken (acks_in shape.tick (run (m >>= f) b ws).log.events) (r.pending on); follows = (refl, r.follows); singly = (refl, λ _. acknowledged_singly may pin gsi b ws) }
     where
       same : (left was taken acks : ℕ) → left ≡ was - (taken + acks) → left ≡ was - (0 + (taken + acks))
       same left was taken acks e = omega (arith, e)

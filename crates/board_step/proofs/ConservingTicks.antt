@@ -1,6 +1,6 @@
 -- Ticks are conserved, they are injected where the state is free, and other injections follow acknowledges.
 use Rattle.std.proofs.Common.{◌≡◌, ℕ, ◌+◌, ◌-◌, Bool, true, false, true≢false, not, ◌&&◌, ◌||◌, nat_eq, min, if◌then◌else◌, ◌⊎◌, inl, inr, List, [], ◌∷◌, ◌++◌, refl, sym, ap, subst, ◌∙◌, arith, Some, None}
-use Rattle.std.specs.Prelude.{IsTrue}
+use Rattle.std.specs.Prelude.{◌≢◌}
 use Rattle.std.specs.List.{Contains, list_any}
 use Rattle.std.specs.declared.option.Option.{Option}
 use Rattle.std.proofs.lemmas.Bool.Decides.{nat_tests}
@@ -12,13 +12,14 @@ use Rattle.irq_base.specs.declared.event.Event.{Event}
 use Rattle.irq_base.specs.declared.event.Event.TheVariants.{Acked, Resampled, Watched, Rang, Injected, Resent, Ipi}
 use Rattle.irq_base.specs.declared.lists.Entry.{Entry}
 use Rattle.irq_base.specs.declared.message.Source.TheVariants.{Tick as TickSource}
-use Rattle.irq_base.specs.declared.reply.Reply.{Reply}
+use Rattle.irq_base.specs.declared.reply.Reply.TheVariants.{Held}
+use Rattle.irq_base.specs.declared.shape.Part.{Part}
 use Rattle.irq_base.specs.declared.shape.Part.TheVariants as parts
 use Rattle.irq_base.specs.declared.shape.Shape.{Shape}
 use Rattle.irq_base.specs.declared.status.Status.{Status}
 use Rattle.tick_reinject.specs.declared.state.TickState.{TickState}
-use Rattle.tick_reinject.specs.Ticks.{ticked, tick_injects, tick_injected}
-use Rattle.board_model.specs.Board.{Board, with_part}
+use Rattle.tick_reinject.specs.Ticks.{in_mode, ticked, tick_injects, tick_injected}
+use Rattle.board_model.specs.Board.{Board, part_of, with_part}
 use Rattle.board_model.specs.Routing.{Routing, routing_of_registry}
 use Rattle.board_model.specs.Plan.{the_reply, Plan, change}
 use Rattle.board_model.specs.Run.{Wishes, Outcome, run}
@@ -26,12 +27,14 @@ use Rattle.board_model.proofs.Sequence.{run-bind}
 use Rattle.board_raise.specs.Signal.{inject}
 use Rattle.board_step.specs.Ticks.{tick_or_hold}
 use Rattle.board_step.specs.Step.{plan_on, outcome_of, with_counts, would_publish, Step}
-use Rattle.board_step.specs.History.{next_board, Leads}
-use Rattle.board_step.specs.HistoryLaws.{is_tick, ticks_in, acks_in, ticks_taken_by, ticks_taken, is_tick_mode, sets_mode, TicksAreConserved, is_signal, TicksInjectFree, is_acked_of, OtherInjectionsFollowAcknowledges}
-use Rattle.board_step.proofs.Following.{next_is}
+use Rattle.board_step.specs.History.{opening, next_board, Leads, board_after}
+use Rattle.board_step.specs.HistoryLaws.{is_tick, ticks_in, acks_in, ticks_taken_by, ticks_taken, is_tick_mode, sets_mode, StartsReinjection, TicksAreConserved, HoldsBack, TicksInjectFree, acks_or_injects, FollowsAcknowledge, OtherInjectionsFollowAcknowledges}
+use Rattle.board_step.proofs.Following.{next_is, board_after_is_reached}
 use Rattle.board_step.proofs.SoundRows.{or_neither}
+use Rattle.board_step.proofs.DeassignedRows.{last_answer}
+use Rattle.board_step.proofs.DeassignedSignals.{leads_both}
 use Rattle.board_step.proofs.ConservingQuiet.{inject_quiet}
-use Rattle.board_step.proofs.ConservingAcks.{or_right, may_after, Following, acks_append, quiet_acks}
+use Rattle.board_step.proofs.ConservingAcks.{is_rang, due_after, Singly, acks_append, quiet_acks}
 use Rattle.board_step.proofs.ConservingCalls.{Lets, call_keeps, tick_keeps}
 
 -- ---- a tick that falls
@@ -122,6 +125,11 @@ step_balances b e c s on stays =
 
 -- ---- a history
 
+-- two parts of a history
+leads_on : (b : Board) (xs ys : List Entry) (mid c : Board) → Leads b xs mid → Leads mid ys c → Leads b (xs ++ ys) c
+leads_on b [] ys mid c same later = subst (λ (d : Board). Leads d ys c) (sym same) later
+leads_on b (x ∷ xs) ys mid c (next, step, leads) later = (next, step, leads_on next xs ys mid c leads later)
+
 balance : (b : Board) (es : List Entry) (c : Board) → b.tick.reinjects ≡ true → Leads b es c → list_any sets_mode es ≡ false → b.tick.pending + ticks_in es ≡ c.tick.pending + ticks_taken b es
 balance b [] c on same stays = ap (λ (d : Board). d.tick.pending + 0) same
 balance b (e ∷ es) c on (next, step, leads) stays =
@@ -133,34 +141,81 @@ balance b (e ∷ es) c on (next, step, leads) stays =
     sum : (was mid last one more taken later again : ℕ) → mid + taken ≡ was + one → mid + more ≡ last + later → again ≡ later → was + (one + more) ≡ last + (taken + again)
     sum was mid last one more taken later again e f g = omega (arith, e, f, g)
 
-pub ticks_are_conserved : TicksAreConserved
-ticks_are_conserved b es c start leads stays =
+-- from any board on which reinjection starts
+conserved_from : (b : Board) (es : List Entry) (c : Board) → b.tick ≡ in_mode true → Leads b es c → list_any sets_mode es ≡ false → ticks_in es ≡ c.tick.pending + ticks_taken b es
+conserved_from b es c start leads stays =
     sum b.tick.pending (ticks_in es) c.tick.pending (ticks_taken b es) (ap (λ (t : TickState). t.pending) start) (balance b es c (ap (λ (t : TickState). t.reinjects) start) leads stays)
   where
     sum : (was all last taken : ℕ) → was ≡ 0 → was + all ≡ last + taken → all ≡ last + taken
     sum was all last taken e f = omega (arith, e, f)
 
+-- an entry that sets the mode of ticks leaves that mode at its start
+mode_set : (b : Board) (e : Entry) (c : Board) (reinject : Bool) → Step b e c → e.call ≡ calls.TickMode reinject → c.tick ≡ in_mode reinject
+mode_set b e c reinject s is =
+    let o = outcome_of b e s.wishes in
+    ap (λ (d : Board). d.tick) (sym s.leads) ∙ counted_tick (would_publish b e.call) o.board ∙ ap (λ (call : Call). (run (plan_on b e.caller call) b s.wishes).board.tick) is
+
+-- reinjection starts on the board after such entries
+started : (shape : Shape) (early : List Entry) (b : Board) → Leads (opening shape) early b → StartsReinjection early → b.tick ≡ in_mode true
+started shape early b leads (inl none) = ap (λ (d : Board). d.tick) (sym (subst (λ (es : List Entry). Leads (opening shape) es b) none leads))
+started shape early b leads (inr turned) = of_end (leads_both (opening shape) turned.before (turned.last ∷ []) b (subst (λ (es : List Entry). Leads (opening shape) es b) turned.ends leads))
+  where
+    of_end : ((mid : Board) × Leads (opening shape) turned.before mid × Leads mid (turned.last ∷ []) b) → b.tick ≡ in_mode true
+    of_end (mid, first, (next, step, same)) = ap (λ (d : Board). d.tick) (sym same) ∙ mode_set mid turned.last next true step turned.call
+
+pub ticks_are_conserved : TicksAreConserved
+ticks_are_conserved shape early es more last leads starts stays = of_start (leads_both (opening shape) early (es ++ more) last leads)
+  where
+    of_end : (b c : Board) → Leads (opening shape) early b → Leads b es c → ticks_in es ≡ (board_after (opening shape) (early ++ es)).tick.pending + ticks_taken (board_after (opening shape) early) es
+    of_end b c first later =
+        let from : board_after (opening shape) early ≡ b = board_after_is_reached (opening shape) early b first in
+        let to : board_after (opening shape) (early ++ es) ≡ c = board_after_is_reached (opening shape) (early ++ es) c (leads_on (opening shape) early es b c first later) in
+        subst (λ (x : Board × Board). ticks_in es ≡ x.1.tick.pending + ticks_taken x.0 es) (λ i. (sym from i, sym to i)) (conserved_from b es c (started shape early b first starts) later stays)
+
+    of_start : ((mid : Board) × Leads (opening shape) early mid × Leads mid (es ++ more) last) → ticks_in es ≡ (board_after (opening shape) (early ++ es)).tick.pending + ticks_taken (board_after (opening shape) early) es
+    of_start (b, first, rest) = let both = leads_both b es more last rest in of_end b both.0 first both.1
+
 -- ---- ticks are injected where the state is free
 
--- a tick that is held back is answered with no status
-held_back : (routing : Routing) (shape : Shape) (held : TickState) (injects : Bool) (b : Board) (ws : Wishes) (r : Reply) → injects ≡ false → (run (tick_or_hold routing shape held injects) b ws).log.answers ≡ r ∷ [] → is_signal r ≡ false
-held_back routing shape held true b ws r never answered = cc
-held_back routing shape held false b ws r never answered = sym (ap first_signals answered)
+-- a write of the tick state, and a count of calls, change no other part
+counted_part : (t : Bool) (b : Board) (v : TickState) (q : Part) → q ≢ parts.Tick → part_of (with_counts t (with_part b parts.Tick v)) q ≡ part_of b q
+counted_part true b v parts.Registry other = refl
+counted_part true b v parts.Counters other = refl
+counted_part true b v parts.Tick other = absurd (other refl)
+counted_part true b v parts.Pic other = refl
+counted_part true b v parts.Ioapic other = refl
+counted_part true b v (parts.Lapic n) other = refl
+counted_part false b v parts.Registry other = refl
+counted_part false b v parts.Counters other = refl
+counted_part false b v parts.Tick other = absurd (other refl)
+counted_part false b v parts.Pic other = refl
+counted_part false b v parts.Ioapic other = refl
+counted_part false b v (parts.Lapic n) other = refl
+
+-- a tick that is not injected answers how many are pending, and writes no more
+held_back : (b : Board) (e : Entry) (c : Board) (s : Step b e c) → e.call ≡ calls.Tick → b.tick.reinjects ≡ true → tick_injects b.tick ≡ false → HoldsBack b e c
+held_back b e c s falls on never =
+    record {
+      reply = last_answer [] (Held (ticked b.tick).pending) e.reply (sym (ap (λ (o : Outcome (Unit {0})). o.log.answers) is) ∙ s.replied) ∙ ap Held (ticked_more b.tick on).1;
+      events = sym s.told ∙ ap (λ (o : Outcome (Unit {0})). o.log.events) is;
+      tick = ap (λ (d : Board). d.tick) left ∙ counted_tick (would_publish b e.call) during;
+      parts = λ q other. ap (λ (d : Board). part_of d q) left ∙ counted_part (would_publish b e.call) b (ticked b.tick) q other;
+    }
   where
-    first_signals : List Reply → Bool
-    first_signals [] = false
-    first_signals (x ∷ xs) = is_signal x
+    during : Board
+    during = with_part b parts.Tick (ticked b.tick)
+
+    routing : Routing
+    routing = routing_of_registry b.registry b.shape.tick
+
+    is : outcome_of b e s.wishes ≡ run (tick_or_hold routing b.shape (ticked b.tick) false) during s.wishes
+    is = ap (λ (call : Call). run (plan_on b e.caller call) b s.wishes) falls ∙ ap (λ (t : Bool). run (tick_or_hold routing b.shape (ticked b.tick) t) during s.wishes) never
+
+    left : c ≡ with_counts (would_publish b e.call) during
+    left = sym s.leads ∙ ap (λ (o : Outcome (Unit {0})). with_counts (would_publish b e.call) o.board) is
 
 pub ticks_inject_free : TicksInjectFree
-ticks_inject_free b e c s falls on signals = by_free b.tick.free refl
-  where
-    answered : (run (plan_on b e.caller calls.Tick) b s.wishes).log.answers ≡ e.reply ∷ []
-    answered = ap (λ call. (run (plan_on b e.caller call) b s.wishes).log.answers) (sym falls) ∙ s.replied
-
-    by_free : (free : Bool) → b.tick.free ≡ free → free ≡ true
-    by_free true is = refl
-    by_free false is = absurd (true≢false (sym signals ∙ held_back (routing_of_registry b.registry b.shape.tick) b.shape (ticked b.tick) (tick_injects b.tick) (with_part b parts.Tick (ticked b.tick)) s.wishes e.reply
-        (ap (λ t. not t || b.tick.free) on ∙ is) answered))
+ticks_inject_free b e c s falls on busy = held_back b e c s falls on (ap (λ t. not t || b.tick.free) on ∙ busy)
 
 -- ---- other injections follow acknowledges
 
@@ -172,56 +227,68 @@ lets_none calls.Tick makes other stays = cc
 lets_none (calls.TickMode reinject) makes other stays = cc
 lets_none _ makes other stays = tt
 
-follows : (b : Board) (caller : Caller) (ws : Wishes) (call : Call) → ((trigger gsi : ℕ) (resample : Option ℕ) → call ≡ calls.Assign trigger gsi resample → ⊥) → Following b.shape.tick true (λ _. false) (run (plan_on b caller call) b ws).log.events
-follows b caller ws call makes = by_call call makes
+singly : (b : Board) (caller : Caller) (ws : Wishes) (call : Call) → ((trigger gsi : ℕ) (resample : Option ℕ) → call ≡ calls.Assign trigger gsi resample → ⊥) → Singly b.shape.tick (λ _. false) false (run (plan_on b caller call) b ws).log.events
+singly b caller ws call makes = by_call call makes
   where
     routing : Routing
     routing = routing_of_registry b.registry b.shape.tick
 
-    by_call : (call : Call) → ((trigger gsi : ℕ) (resample : Option ℕ) → call ≡ calls.Assign trigger gsi resample → ⊥) → Following b.shape.tick true (λ _. false) (run (plan_on b caller call) b ws).log.events
-    by_call calls.Tick makes = (tick_keeps routing b.shape true (λ _. false) (ticked b.tick) (tick_injects b.tick) (with_part b parts.Tick (ticked b.tick)) ws).follows
+    by_call : (call : Call) → ((trigger gsi : ℕ) (resample : Option ℕ) → call ≡ calls.Assign trigger gsi resample → ⊥) → Singly b.shape.tick (λ _. false) false (run (plan_on b caller call) b ws).log.events
+    by_call calls.Tick makes = (tick_keeps routing b.shape true (λ _. false) (ticked b.tick) (tick_injects b.tick) (with_part b parts.Tick (ticked b.tick)) ws).singly
     by_call (calls.TickMode reinject) makes = tt
-    by_call call makes = (call_keeps routing b.shape true (λ _. false) caller call (lets_none call makes refl refl) b ws).follows
+    by_call call makes = (call_keeps routing b.shape true (λ _. false) caller call (lets_none call makes refl refl) b ws).singly
 
--- why an injection came: it might come before, it is of the tick after an acknowledge of its GSI, or an ioeventfd was rung
-abbrev Comes : ℕ → (ℕ → Bool) → List Event → ℕ → Type 0
-Comes tick may before gsi = (may gsi ≡ true) ⊎ (((gsi ≡ tick) × IsTrue (list_any (is_acked_of tick) before)) ⊎ ((counter : ℕ) × Contains before (Rang counter)))
+-- no event of these is that of an ioeventfd
+abbrev RingsNothing : List Event → Type 0
+RingsNothing events = (counter : ℕ) → Contains events (Rang counter) → ⊥
 
-or_both_ways : (a b : Bool) → (a || b) ≡ true → (a ≡ true) ⊎ (b ≡ true)
-or_both_ways true b h = inl refl
-or_both_ways false b h = inr h
+head_rings : (x : Event) (xs : List Event) → RingsNothing (x ∷ xs) → is_rang x ≡ false
+head_rings (Rang counter) xs never = absurd (never counter (Contains-append_left (Rang counter ∷ []) xs (Rang counter) (0, omega arith, refl)))
+head_rings (Acked pin gsi) xs never = refl
+head_rings (Resampled counter) xs never = refl
+head_rings (Watched counter) xs never = refl
+head_rings (Injected gsi status) xs never = refl
+head_rings (Resent pin status) xs never = refl
+head_rings (Ipi status) xs never = refl
+
+-- why the tick is injected: it was due before, and stays so, or an acknowledge made it due
+abbrev Comes : ℕ → Bool → List Event → Type 0
+Comes tick due before = ((due ≡ true) × (list_any acks_or_injects before ≡ false)) ⊎ FollowsAcknowledge tick before
 
 module _ (tick : ℕ) where
   -- an event more before
-  comes_later : (may : ℕ → Bool) (x : Event) (before : List Event) (gsi : ℕ) → Comes tick (may_after tick may x) before gsi → Comes tick may (x ∷ before) gsi
-  comes_later may x before gsi (inr (inl here)) = inr (inl (here.0, or_right (is_acked_of tick x) (list_any (is_acked_of tick) before) here.1))
-  comes_later may x before gsi (inr (inr rang)) = inr (inr (rang.0, Contains-append_right (x ∷ []) before (Rang rang.0) rang.1))
-  comes_later may x before gsi (inl allowed) = by_event x allowed
+  comes_later : (due : Bool) (x : Event) (before : List Event) → Comes tick (due_after tick due x) before → Comes tick due (x ∷ before)
+  comes_later due x before (inr found) = inr (record { early = x ∷ found.early; pin = found.pin; mid = found.mid; told = ap (λ l. x ∷ l) found.told; next = found.next })
+  comes_later due x before (inl (is, none)) = by_event x is
     where
-      acked : (g : ℕ) → (nat_eq g tick && nat_eq gsi tick) ≡ true → (gsi ≡ tick) × (nat_eq (if nat_eq g tick then 1 else 0) 1 ≡ true)
-      acked g h = grind (arith, nat_tests)
+      same : (g : ℕ) → nat_eq g tick ≡ true → g ≡ tick
+      same g h = grind (arith, nat_tests)
 
-      by_event : (x : Event) → may_after tick may x gsi ≡ true → Comes tick may (x ∷ before) gsi
-      by_event (Acked pin None) h = inl h
-      by_event (Acked pin (Some g)) h = elim (or_both_ways (may gsi) (nat_eq g tick && nat_eq gsi tick) h) [
-        | inl might ↦ inl might
-        | inr is ↦ let a = acked g is in inr (inl (a.0, ap (λ t. t || list_any (is_acked_of tick) before) a.1))
-      ]
-      by_event (Rang counter) h = inr (inr (counter, Contains-append_left (Rang counter ∷ []) before (Rang counter) (0, omega arith, refl)))
-      by_event (Resampled counter) h = inl h
-      by_event (Watched counter) h = inl h
-      by_event (Injected g status) h = inl h
-      by_event (Resent pin status) h = inl h
-      by_event (Ipi status) h = inl h
+      by_event : (x : Event) → due_after tick due x ≡ true → Comes tick due (x ∷ before)
+      by_event (Acked pin None) is = absurd (true≢false (sym is))
+      by_event (Acked pin (Some g)) is = inr (record { early = []; pin = pin; mid = before; told = ap (λ n. Acked pin (Some n) ∷ before) (same g is); next = none })
+      by_event (Injected g status) is = absurd (true≢false (sym is))
+      by_event (Rang counter) is = inl (is, none)
+      by_event (Resampled counter) is = inl (is, none)
+      by_event (Watched counter) is = inl (is, none)
+      by_event (Resent pin status) is = inl (is, none)
+      by_event (Ipi status) is = inl (is, none)
 
-  comes : (may : ℕ → Bool) (before after : List Event) (gsi : ℕ) (status : Status) → Following tick true may (before ++ Injected gsi status ∷ after) → Comes tick may before gsi
-  comes may [] after gsi status h = inl h.0
-  comes may (x ∷ before) after gsi status h = comes_later may x before gsi (comes (may_after tick may x) before after gsi status h.1)
+  comes : (due : Bool) (before after : List Event) (gsi : ℕ) (status : Status) → RingsNothing (before ++ Injected gsi status ∷ after) → Singly tick (λ _. false) due (before ++ Injected gsi status ∷ after) → (gsi ≡ tick) × Comes tick due before
+  comes due [] after gsi status never h = let both = split due h.0 in (both.1, inl (both.0, refl))
+    where
+      split : (due : Bool) → (due && nat_eq gsi tick) ≡ true → (due ≡ true) × (gsi ≡ tick)
+      split true h = (refl, grind (arith, nat_tests))
+      split false h = absurd (true≢false (sym h))
+  comes due (x ∷ before) after gsi status never h =
+      let later = comes (due_after tick due x) before after gsi status (λ counter rang. never counter (Contains-append_right (x ∷ []) (before ++ Injected gsi status ∷ after) (Rang counter) rang)) (h.1 (head_rings x (before ++ Injected gsi status ∷ after) never)) in
+      (later.0, comes_later due x before later.1)
 
 pub other_injections_follow_acknowledges : OtherInjectionsFollowAcknowledges
 other_injections_follow_acknowledges b e c s rings makes before after gsi status told =
-    elim (comes b.shape.tick (λ _. false) before after gsi status (subst (λ (events : List Event). Following b.shape.tick true (λ _. false) events) (s.told ∙ told) (follows b e.caller s.wishes e.call makes))) [
-      | inl never ↦ absurd (true≢false (sym never))
-      | inr (inl found) ↦ (found.0, subst (λ (g : ℕ). IsTrue (list_any (is_acked_of g) before)) (sym found.0) found.1)
-      | inr (inr rang) ↦ absurd (rings rang.0 (subst (λ (events : List Event). Contains events (Rang rang.0)) (sym told) (Contains-append_left before (Injected gsi status ∷ after) (Rang rang.0) rang.1)))
+    let found = comes b.shape.tick false before after gsi status (subst (λ (events : List Event). RingsNothing events) told rings)
+    (subst (λ (events : List Event). Singly b.shape.tick (λ _. false) false events) (s.told ∙ told) (singly b e.caller s.wishes e.call makes)) in
+    elim found.1 [
+      | inl early ↦ absurd (true≢false (sym early.0))
+      | inr follows ↦ (found.0, subst (λ (g : ℕ). FollowsAcknowledge g before) (sym found.0) follows)
     ]

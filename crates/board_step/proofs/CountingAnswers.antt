@@ -1,11 +1,12 @@
 -- Each call answers exactly once, and on a sound board it tells at most 560 events.
-use Rattle.std.proofs.Common.{◌≡◌, ℕ, ◌+◌, ◌≤◌, List, [], ◌∷◌, length, map, refl, arith}
+use Rattle.std.proofs.Common.{◌≡◌, ℕ, ◌+◌, ◌≤◌, List, [], ◌∷◌, length, map, refl, subst, arith}
 use Rattle.irq_base.specs.declared.event.Pin.{Pin}
 use Rattle.irq_base.specs.declared.event.Pin.TheVariants.{Ioapic}
 use Rattle.irq_base.specs.declared.shape.Shape.{Shape}
 use Rattle.ioapic_82093aa.specs.Pins.{has_vector}
 use Rattle.irq_base.specs.declared.call.Call.{Call}
 use Rattle.irq_base.specs.declared.call.Caller.{Caller}
+use Rattle.irq_base.specs.declared.event.Event.{Event}
 use Rattle.irq_base.specs.declared.reply.Reply.{Reply}
 use Rattle.board_model.specs.Board.{Board}
 use Rattle.board_model.specs.Run.{Wishes, run}
@@ -14,9 +15,9 @@ use Rattle.board_model.specs.Routing.{Routing, routing_of_registry}
 use Rattle.board_raise.proofs.Counting.{Told}
 use Rattle.board_ack.proofs.Counting.{each_events}
 use Rattle.board_step.specs.Processors.{all_pins}
-use Rattle.board_step.specs.Step.{plan_on, counted}
+use Rattle.board_step.specs.Step.{plan_on, outcome_of, counted}
 use Rattle.board_step.specs.Sound.{IsSound}
-use Rattle.board_step.specs.Laws.{AnswersOnce, AlwaysAnswers}
+use Rattle.board_step.specs.Laws.{AnswersOnce, AlwaysAnswers, StepsTellFew}
 use Rattle.board_step.proofs.CountingCalls.{Any, Bounds, call_tells}
 use Rattle.board_step.proofs.CountingRows.{resamplers, each_events-apart, each_events-some}
 use Rattle.board_step.proofs.CountingTriggers.{few_resamplers}
@@ -78,3 +79,9 @@ always_answers b caller call sound allowed free =
       step = record { allowed = allowed; in_limits = free; wishes = []; replied = one.1; told = refl; leads = refl };
       bounded = omega (arith, t.events_at_most, sound_events b sound);
     }
+
+-- a step from a sound board tells few events, whatever was wished
+pub steps_tell_few : StepsTellFew
+steps_tell_few b e c sound s =
+    let t : Told Any (most_events b.registry) 1 (outcome_of b e s.wishes) = told_of b e.caller e.call s.wishes in
+    subst (λ (events : List Event). length events ≤ 560) s.told (omega (arith, t.events_at_most, sound_events b sound))

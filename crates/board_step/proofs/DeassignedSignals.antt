@@ -42,11 +42,11 @@ use Rattle.board_step.proofs.DeassignedRows.{last_answer, leads_apart, opening_a
 
 -- ---- lists
 
-no_member : {X : Type 0} (x : X) → Contains [] x → ⊥
+pub no_member : {X : Type 0} (x : X) → Contains [] x → ⊥
 no_member x h = let below : h.0 < 0 = h.1 in absurd (omega (arith, below))
 
 -- a member is the first, or one of the others
-first_or_later : {X : Type 0} (y x : X) (xs : List X) → Contains (y ∷ xs) x → (x ≡ y) ⊎ Contains xs x
+pub first_or_later : {X : Type 0} (y x : X) (xs : List X) → Contains (y ∷ xs) x → (x ≡ y) ⊎ Contains xs x
 first_or_later {X} y x xs (k, below, is) = by_place k below is
   where
     by_place : (k : ℕ) → k < length (y ∷ xs) → slice_index_or (y ∷ xs) k x ≡ x → (x ≡ y) ⊎ Contains xs x
@@ -307,7 +307,7 @@ signals_no_more counter b e c s off = record {
 -- ---- a history
 
 -- the board between two parts of a history
-leads_both : (b : Board) (xs ys : List Entry) (c : Board) → Leads b (xs ++ ys) c → (mid : Board) × Leads b xs mid × Leads mid ys c
+pub leads_both : (b : Board) (xs ys : List Entry) (c : Board) → Leads b (xs ++ ys) c → (mid : Board) × Leads b xs mid × Leads mid ys c
 leads_both b [] ys c leads = (b, refl, leads)
 leads_both b (x ∷ xs) ys c (next, step, leads) = let rest = leads_both next xs ys c leads in (rest.0, (next, step, rest.1), rest.2)
 

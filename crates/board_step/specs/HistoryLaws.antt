@@ -20,9 +20,9 @@ use Rattle.irq_base.specs.declared.message.Source.TheVariants.{Resample}
 use Rattle.irq_base.specs.declared.message.Targets.{Targets}
 use Rattle.irq_base.specs.declared.refusal.Refusal.{Refusal}
 use Rattle.irq_base.specs.declared.reply.Reply.{Reply}
-use Rattle.irq_base.specs.declared.reply.Reply.TheVariants.{Signal, Done, Removed, Vector, Nmi, Refused}
+use Rattle.irq_base.specs.declared.reply.Reply.TheVariants.{Signal, Done, Held, Removed, Vector, Nmi, Refused}
 use Rattle.irq_base.specs.declared.shape.Part.{Part}
-use Rattle.irq_base.specs.declared.shape.Part.TheVariants.{Counters, Lapic}
+use Rattle.irq_base.specs.declared.shape.Part.TheVariants.{Counters, Tick as TickPart, Lapic}
 use Rattle.irq_base.specs.declared.shape.Shape.{Shape}
 use Rattle.irq_base.specs.declared.status.Cause.{Cause}
 use Rattle.irq_base.specs.declared.status.Cause.TheVariants.{Masked, NoProcessor, BadVector, Mode}
@@ -42,7 +42,8 @@ use Rattle.ioevent_set.specs.Rows.{rung_by}
 use Rattle.ack_notifiers.specs.Rows.{watch_events}
 use Rattle.resampler.specs.Resample.{resample_events}
 use Rattle.route_table.specs.Pins.{gsi_of}
-use Rattle.tick_reinject.specs.Ticks.{in_mode}
+use Rattle.tick_reinject.specs.Ticks.{ticked}
+use Rattle.board_model.specs.declared.trigger.TriggerWord.{TriggerWord}
 use Rattle.board_model.specs.Registry.{RegistryPart}
 use Rattle.board_model.specs.Board.{Board, part_of, with_part}
 use Rattle.board_model.specs.Chips.{PicChip, PicPart, IoapicPart, pair_of, ioapic_of}
@@ -452,25 +453,70 @@ is_tick_mode _ = false
 abbrev pub sets_mode : Entry → Bool
 sets_mode e = is_tick_mode e.call
 
--- from the start of reinjection on, and until the mode is set again, the ticks are those that are pending and those that
--- acknowledges took
+-- the last of these entries turns reinjection on
+pub record TurnsReinjectionOn (early : List Entry) : Type 0 where
+  pub before : List Entry
+  pub last : Entry
+  pub ends : early ≡ before ++ last ∷ []
+  pub call : last.call ≡ TickMode true
+
+-- reinjection starts after these entries: at power-on there are none, else the last of them turns it on
+abbrev pub StartsReinjection : List Entry → Type 0
+StartsReinjection early = (early ≡ []) ⊎ TurnsReinjectionOn early
+
+-- in a legal history, from the start of reinjection on, and until the mode is set again, the ticks are those that are pending
+-- and those that acknowledges took
 abbrev pub TicksAreConserved : Type 0
-TicksAreConserved = (b : Board) (es : List Entry) (c : Board) → b.tick ≡ in_mode true → Leads b es c → list_any sets_mode es ≡ false → ticks_in es ≡ c.tick.pending + ticks_taken b es
+TicksAreConserved = (shape : Shape) (early es more : List Entry) (last : Board) → Leads (opening shape) (early ++ (es ++ more)) last → StartsReinjection early → list_any sets_mode es ≡ false →
+    ticks_in es ≡ (board_after (opening shape) (early ++ es)).tick.pending + ticks_taken (board_after (opening shape) early) es
 
--- whether a reply is a status
-abbrev pub is_signal : Reply → Bool
-is_signal (Signal status) = true
-is_signal _ = false
+-- a tick that is held back: it is pending, no event is told, and no part but the tick state changes
+pub record HoldsBack (b : Board) (e : Entry) (c : Board) : Type 0 where
+  pub reply : e.reply ≡ Held (b.tick.pending + 1)
+  pub events : e.events ≡ []
+  pub tick : c.tick ≡ ticked b.tick
+  pub parts : (q : Part) → q ≢ TickPart → part_of c q ≡ part_of b q
 
--- a tick is injected by a Tick under reinjection only where the state was free
+-- under reinjection a tick that falls where the state is not free is held back, so that ticks inject only where it is free
 abbrev pub TicksInjectFree : Type 0
-TicksInjectFree = (b : Board) (e : Entry) (c : Board) → Step b e c → e.call ≡ Tick → b.tick.reinjects ≡ true → is_signal e.reply ≡ true → b.tick.free ≡ true
+TicksInjectFree = (b : Board) (e : Entry) (c : Board) → Step b e c → e.call ≡ Tick → b.tick.reinjects ≡ true → b.tick.free ≡ false → HoldsBack b e c
 
--- whether an event is an acknowledge of a pin of this GSI
-abbrev pub is_acked_of : ℕ → Event → Bool
-is_acked_of gsi event = nat_eq (is_ack_of gsi event) 1
+-- whether an event is an acknowledge or an injection
+abbrev pub acks_or_injects : Event → Bool
+acks_or_injects (Acked pin gsi) = true
+acks_or_injects (Injected gsi status) = true
+acks_or_injects _ = false
 
--- in an entry that rings no ioeventfd and makes no irqfd, each injection is of the tick, by an acknowledge of its GSI before it
+-- before stands an acknowledge of this GSI, and after it neither an acknowledge nor an injection
+pub record FollowsAcknowledge (gsi : ℕ) (before : List Event) : Type 0 where
+  pub early : List Event
+  pub pin : Pin
+  pub mid : List Event
+  pub told : before ≡ early ++ Acked pin (Some gsi) ∷ mid
+  pub next : list_any acks_or_injects mid ≡ false
+
+-- in an entry that rings no ioeventfd and makes no irqfd, each injection is of the tick, and has an acknowledge of the tick's
+-- GSI to itself
 abbrev pub OtherInjectionsFollowAcknowledges : Type 0
 OtherInjectionsFollowAcknowledges = (b : Board) (e : Entry) (c : Board) → Step b e c → ((counter : ℕ) → Contains e.events (Rang counter) → ⊥) → ((trigger gsi : ℕ) (resample : Option ℕ) → e.call ≡ Assign trigger gsi resample → ⊥) →
-    (before after : List Event) (gsi : ℕ) (status : Status) → e.events ≡ before ++ Injected gsi status ∷ after → (gsi ≡ b.shape.tick) × IsTrue (list_any (is_acked_of gsi) before)
+    (before after : List Event) (gsi : ℕ) (status : Status) → e.events ≡ before ++ Injected gsi status ∷ after → (gsi ≡ b.shape.tick) × FollowsAcknowledge gsi before
+
+-- ---- an irqfd injects once
+
+-- no event, or one injection of this GSI
+abbrev pub InjectsAtMostOnce : ℕ → List Event → Type 0
+InjectsAtMostOnce gsi events = (events ≡ []) ⊎ ((status : Status) × (events ≡ Injected gsi status ∷ []))
+
+-- what is told where a counter is rung: that it rang, and one injection of its irqfd, if it is the trigger of one
+abbrev pub RingsOnce : ℕ → Option TriggerWord → List Event → Type 0
+RingsOnce counter None events = events ≡ Rang counter ∷ []
+RingsOnce counter (Some trigger) events = (status : Status) × (events ≡ Rang counter ∷ Injected trigger.gsi status ∷ [])
+
+-- an irqfd that is made injects at most once, and one that is rung once: no more is told
+pub record InjectsOnce (b : Board) (e : Entry) : Type 0 where
+  pub made : (trigger gsi : ℕ) (resample : Option ℕ) → e.call ≡ Assign trigger gsi resample → InjectsAtMostOnce gsi e.events
+  pub rung : (counter : ℕ) → Contains e.events (Rang counter) → RingsOnce counter ((routing_of_registry b.registry b.shape.tick).trigger counter) e.events
+
+-- so it is in each step
+abbrev pub OneInjectionOfAnIrqfd : Type 0
+OneInjectionOfAnIrqfd = (b : Board) (e : Entry) (c : Board) → Step b e c → InjectsOnce b e

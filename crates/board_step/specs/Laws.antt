@@ -55,6 +55,10 @@ pub record HasStep (b : Board) (caller : Caller) (call : Call) : Type 0 where
 abbrev pub AlwaysAnswers : Type 0
 AlwaysAnswers = (b : Board) (caller : Caller) (call : Call) → IsSound b → is_allowed caller call b.shape ≡ true → spent_of b call ≡ None → HasStep b caller call
 
+-- a step from a sound board tells at most 560 events
+abbrev pub StepsTellFew : Type 0
+StepsTellFew = (b : Board) (e : Entry) (c : Board) → IsSound b → Step b e c → length e.events ≤ 560
+
 -- ---- a step depends on its reach
 
 -- the table of what a call reaches says which parts its plan looks at or writes, under all wishes

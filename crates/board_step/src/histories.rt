@@ -1,6 +1,6 @@
 //! The laws of legal histories: functions with no body, the contract of each being a law.
 
-ghost use Rattle.board_step.specs.HistoryLaws.{SendingsAreLogged, RequestsStayPending, EachAcknowledgeResamplesOnce, NoSignalOfDeassignedTrigger, TicksAreConserved, TicksInjectFree, OtherInjectionsFollowAcknowledges, CoalescedAndIgnoredChangeNoRequest, LapicsStayInPlace, StatusesWithoutEffectChangeNoRequest, PicPinsHaveTheirLines, IgnoredMaskedIsMasked};
+ghost use Rattle.board_step.specs.HistoryLaws.{SendingsAreLogged, RequestsStayPending, EachAcknowledgeResamplesOnce, NoSignalOfDeassignedTrigger, TicksAreConserved, TicksInjectFree, OtherInjectionsFollowAcknowledges, CoalescedAndIgnoredChangeNoRequest, LapicsStayInPlace, StatusesWithoutEffectChangeNoRequest, PicPinsHaveTheirLines, IgnoredMaskedIsMasked, OneInjectionOfAnIrqfd};
 
 /// A law: the sendings of a run that the next law speaks of are those that its log shows, in order.
 pub fn sendings_are_logged<A>()
@@ -28,21 +28,21 @@ pub fn no_signal_of_deassigned_trigger()
     ensures { NoSignalOfDeassignedTrigger }
 {}
 
-/// A law: from the start of reinjection on, and until the mode is set again, the ticks that fell are those that are pending
-/// and those that acknowledges took.
+/// A law: in a legal history, from the start of reinjection on, at power-on or by `TickMode`, and until the mode is set
+/// again, the ticks that fell are those that are pending and those that acknowledges took.
 #[tactic(auto, using(crate::proofs::ConservingTicks::ticks_are_conserved))]
 pub fn ticks_are_conserved()
     ensures { TicksAreConserved }
 {}
 
-/// A law: under reinjection a tick that falls is injected only where the state was free.
-#[tactic(auto, using(crate::proofs::ConservingTicks::ticks_inject_free))]
+/// A law: under reinjection a tick that falls is injected only where the state is free; else it is held back, which tells no
+/// event and changes no part but the tick state.
 pub fn ticks_inject_free()
     ensures { TicksInjectFree }
 {}
 
-/// A law: where an entry rings no ioeventfd and makes no irqfd, each injection that it tells is of the tick, after an
-/// acknowledge of the tick's GSI.
+/// A law: where an entry rings no ioeventfd and makes no irqfd, each injection that it tells is of the tick, and follows an
+/// acknowledge of the tick's GSI with no other acknowledge and no other injection between.
 pub fn other_injections_follow_acknowledges()
     ensures { OtherInjectionsFollowAcknowledges }
 {}
@@ -75,4 +75,10 @@ pub fn pic_pins_have_their_lines()
 #[tactic(auto, using(crate::proofs::EffectHistories::ignored_masked_is_masked))]
 pub fn ignored_masked_is_masked()
     ensures { IgnoredMaskedIsMasked }
+{}
+
+/// A law: an entry that makes an irqfd tells no event or one injection of its GSI; one that rings an ioeventfd tells that, and
+/// where the counter is the trigger of an irqfd, one injection of its GSI.
+pub fn one_injection_of_an_irqfd()
+    ensures { OneInjectionOfAnIrqfd }
 {}

@@ -1,6 +1,6 @@
 //! The laws of steps: functions with no body, the contract of each being a law.
 
-ghost use Rattle.board_step.specs.Laws.{LeadsToOne, CallsSteadily, BoardAfterIsReached, AnswersOnce, AlwaysAnswers, RefusesFirst, RefusedRightly, WordsStay};
+ghost use Rattle.board_step.specs.Laws.{LeadsToOne, CallsSteadily, BoardAfterIsReached, AnswersOnce, AlwaysAnswers, StepsTellFew, RefusesFirst, RefusedRightly, WordsStay};
 
 /// A law: an entry leads from a board to one board at most.
 pub fn leads_to_one()
@@ -28,6 +28,11 @@ pub fn answers_once()
 #[tactic(auto, using(crate::proofs::CountingAnswers::always_answers))]
 pub fn always_answers()
     ensures { AlwaysAnswers }
+{}
+
+/// A law: each step from a sound board tells at most 560 events.
+pub fn steps_tell_few()
+    ensures { StepsTellFew }
 {}
 
 /// A law: a call that the board refuses answers that refusal alone, tells nothing and changes nothing, whatever is wished.

@@ -15,13 +15,13 @@ mod typed;
 pub use histories::{
     coalesced_and_ignored_change_no_request, each_acknowledge_resamples_once,
     ignored_masked_is_masked, lapics_stay_in_place, no_signal_of_deassigned_trigger,
-    other_injections_follow_acknowledges, pic_pins_have_their_lines, requests_stay_pending,
-    sendings_are_logged, statuses_without_effect_change_no_request, ticks_are_conserved,
-    ticks_inject_free,
+    one_injection_of_an_irqfd, other_injections_follow_acknowledges, pic_pins_have_their_lines,
+    requests_stay_pending, sendings_are_logged, statuses_without_effect_change_no_request,
+    ticks_are_conserved, ticks_inject_free,
 };
 pub use laws::{
     always_answers, answers_once, board_after_is_reached, calls_steadily, leads_to_one,
-    refused_rightly, refuses_first, words_stay,
+    refused_rightly, refuses_first, steps_tell_few, words_stay,
 };
 pub use reach::{depends_on_reach, reach_is_table, stays_outside_reach};
 pub use sound::{histories_keep_sound, opening_is_sound, steps_keep_sound};
