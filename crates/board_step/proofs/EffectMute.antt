@@ -18,7 +18,7 @@ use Rattle.irq_base.specs.declared.message.Source.TheVariants.{Line, Pulse, Resa
 use Rattle.irq_base.specs.declared.message.Targets.{Targets}
 use Rattle.irq_base.specs.declared.refusal.Refusal.{Refusal}
 use Rattle.irq_base.specs.declared.reply.Reply.{Reply}
-use Rattle.irq_base.specs.declared.reply.Reply.TheVariants.{Done, Removed, Value, Exit, Vector, Extint}
+use Rattle.irq_base.specs.declared.reply.Reply.TheVariants.{Signal, Done, Removed, Value, Exit, Vector, Extint}
 use Rattle.irq_base.specs.declared.shape.Part.TheVariants.{Lapic}
 use Rattle.irq_base.specs.declared.shape.Shape.{Shape}
 use Rattle.irq_base.specs.declared.status.Cause.{Cause}
@@ -63,8 +63,12 @@ use Rattle.board_step.specs.Registrations.{unless_refused, unless_one_of, source
 use Rattle.board_step.specs.Processors.{pins_with, end_vector, ended_reply, end_of_interrupt, pic_pin, cycle_pins, cycle_made, given_reply, give, hears_pair, give_of_pair, take_nmi, next_interrupt}
 use Rattle.board_step.specs.Accesses.{pair_written, pair_write, pair_gave, pair_read, resend_written, ioapic_written, ioapic_store, ioapic_load, store_effects, lapic_stored, lapic_store, lapic_load, ring_counter, rung, ring, port_out, port_in, store, load}
 use Rattle.board_step.specs.Calls.{io_row, plan_in_range}
-use Rattle.board_step.specs.HistoryLaws.{is_signal}
 use Rattle.board_step.proofs.CallManner.{replies_in}
+
+-- whether a reply is a status
+abbrev pub is_signal : Reply → Bool
+is_signal (Signal status) = true
+is_signal _ = false
 
 -- a plan answers no status, and no sending of it shows in the reply
 abbrev pub Mute : {A : Type 0} → Plan A → Type 0
