@@ -40,6 +40,7 @@ use Rattle.board_step.specs.Ticks.{tick_or_hold}
 use Rattle.board_step.specs.Calls.{number_of, plan_in_range}
 use Rattle.board_step.specs.Step.{plan_on, outcome_of, with_counts, would_publish}
 use Rattle.board_step.specs.HistoryLaws.{message_target, signal_targets, message_raised, pic_answer_on, raise_answer_on, IsSaidOf, is_without_effect, ChangesNoRequest, CoalescedAndIgnoredChangeNoRequest}
+use Rattle.board_step.proofs.EffectStood.{raise_stood, raised_stood}
 use Rattle.board_step.proofs.EffectMute.{Mute, unless_mute, call_mute, some_status, mute_answers}
 use Rattle.board_step.proofs.EffectSends.{Spares, spares_bind, Says, says_before, says_after, shown_says, send_says}
 
@@ -86,7 +87,8 @@ module _ (b : Board) (stand : HasProcessors b b.shape.cpus) where
     answered_says pin msi w raises.Masked is ws =
         shown_says b stand (at (Some pin) msi) u v w (Some (no_effect Masked)) (Some (no_effect Masked)) ws (sym (ap (λ r. Some (raise_answer_on b b.shape.cpus r)) is))
     answered_says pin msi w raises.Stood is ws =
-        shown_says b stand (at (Some pin) msi) u v w (Some stood_already) (Some stood_already) ws (inl (record { pin = pin; there = refl; stood = is }))
+        let found = raised_stood b.ioapic pin (ap raise_stood is) in
+        shown_says b stand (at (Some pin) msi) u v w (Some stood_already) (Some stood_already) ws (inl (record { pin = pin; there = refl; unmasked = found.0; stood = found.1 }))
     answered_says pin msi w (raises.Send message) is ws =
         says_before b (at (Some pin) msi) (λ answer. accept_pin pin (is_accepted message answer) >> done (Some answer)) (send b.shape.cpus message None (shown (pic_answer_on b pic))) (record c { ioapic = w }) ws
         (send_says b stand (at (Some pin) msi) u v w message (ap message_raised is) (ap (λ r. Some (raise_answer_on b b.shape.cpus r)) is) ws)

@@ -5,6 +5,8 @@ use Rattle.irq_base.specs.declared.call.Call.{Call}
 use Rattle.irq_base.specs.declared.call.Call.TheVariants as calls
 use Rattle.irq_base.specs.declared.lists.Entry.{Entry}
 use Rattle.irq_base.specs.declared.shape.Shape.{Shape}
+use Rattle.irq_base.specs.declared.status.Cause.TheVariants.{Masked}
+use Rattle.irq_base.specs.declared.status.Status.TheVariants.{Ignored}
 use Rattle.lapic.specs.Registers.{power_on}
 use Rattle.board_model.specs.Board.{Board}
 use Rattle.board_model.specs.Routing.{Routing, routing_of_registry}
@@ -17,12 +19,13 @@ use Rattle.board_step.specs.Calls.{number_of, plan_in_range}
 use Rattle.board_step.specs.Sound.{LapicsStand}
 use Rattle.board_step.specs.Step.{plan_on, outcome_of, with_counts, would_publish, Step}
 use Rattle.board_step.specs.History.{opening, Leads, board_after}
-use Rattle.board_step.specs.HistoryLaws.{board_at, is_ack, ChangesNoRequest, LapicsStayInPlace, StatusesWithoutEffectChangeNoRequest}
+use Rattle.board_step.specs.HistoryLaws.{board_at, is_ack, ChangesNoRequest, LapicsStayInPlace, StatusesWithoutEffectChangeNoRequest, IgnoredMaskedIsMasked}
 use Rattle.board_step.proofs.Following.{next_is}
 use Rattle.board_step.proofs.SoundOpening.{number_at, apics_many, apics_numbered}
 use Rattle.board_step.proofs.PendingPlans.{Fine}
 use Rattle.board_step.proofs.PendingCalls.{unless_safe, in_range_safe}
 use Rattle.board_step.proofs.PendingTaking.{next_taking}
+use Rattle.board_step.proofs.EffectStood.{masked_only}
 use Rattle.board_step.proofs.EffectCalls.{coalesced_and_ignored_change_no_request}
 
 -- ---- each step
@@ -80,3 +83,8 @@ statuses_without_effect_change_no_request shape p status (last, leads) replied q
     let at = steps_at (opening shape) p.before p.entry p.after last (opening_stands shape) leads in
     subst (λ d. ChangesNoRequest (board_at shape p) p.entry d status) (sym (next_is (board_at shape p) p.entry at.1 at.2))
     (coalesced_and_ignored_change_no_request (board_at shape p) p.entry at.1 status (has_processors (board_at shape p) at.0) at.2 replied quiet)
+
+pub ignored_masked_is_masked : IgnoredMaskedIsMasked
+ignored_masked_is_masked shape p legal replied =
+    let told = statuses_without_effect_change_no_request shape p (Ignored Masked) legal replied refl in
+    record { targets = told.targets; signalled = told.signalled; masked = masked_only (board_at shape p) told.targets told.said }

@@ -41,6 +41,7 @@ use Rattle.board_raise.specs.Laws.{processors_on, named_on, HasProcessors, IsSen
 use Rattle.board_raise.proofs.SendExactly.{after_seen, wishes_reach_exactly}
 use Rattle.board_raise.proofs.EffectNamed.{has_any, named_alike}
 use Rattle.board_step.specs.HistoryLaws.{message_on, PicStood, IoapicStood, RequestStood, pic_answer_on, message_answer_by, message_answer_on, other_answer_on, IsSaidOf, is_without_effect, SameRequests}
+use Rattle.board_step.proofs.EffectStood.{has_stood, pin_stood}
 
 -- ---- plans that answer nothing and leave the requests of a board
 
@@ -161,7 +162,7 @@ module _ (b : Board) (targets : Targets) where
     where
       of_outcome : (o : PinOutcome) → pin_outcome (pair_of b.pic) pin true ≡ o → stands (Some (pic_answer o)) ≡ true → PicStood b targets
       of_outcome outcomes.New is h = absurd (true≢false (sym h))
-      of_outcome outcomes.Stood is h = record { pin = pin; there = there; stood = is }
+      of_outcome outcomes.Stood is h = let found = pin_stood b.pic pin (ap has_stood is) in record { pin = pin; there = there; unmasked = found.0; stood = found.1 }
       of_outcome outcomes.Masked is h = absurd (true≢false (sym h))
       of_outcome outcomes.Lowered is h = absurd (true≢false (sym (ap is_lowered is) ∙ never_lowers (pair_of b.pic) pin))
 

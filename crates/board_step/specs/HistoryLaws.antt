@@ -1,5 +1,5 @@
 -- What holds along every legal history (over this board's own definitions).
-use Rattle.std.specs.Prelude.{◌≡◌, ◌≢◌, ℕ, ◌+◌, Bool, true, false, not, ◌&&◌, ◌||◌, nat_eq, min, if◌then◌else◌, ◌⊎◌, List, [], ◌∷◌, ◌++◌, slice_get, option_map, map, All, IsTrue, Some, None}
+use Rattle.std.specs.Prelude.{◌≡◌, ◌≢◌, ℕ, ◌+◌, Bool, true, false, not, ◌&&◌, ◌||◌, nat_eq, min, if◌then◌else◌, ◌⊎◌, List, [], ◌∷◌, ◌++◌, slice_get, option_map, map, All, IsTrue, Some, None, ◌%◌, ◌<◌, nat_lt}
 use Rattle.std.specs.List.{Contains, list_any}
 use Rattle.std.specs.declared.option.Option.{Option}
 use Rattle.std.specs.FinSet as set
@@ -28,14 +28,14 @@ use Rattle.irq_base.specs.declared.status.Cause.{Cause}
 use Rattle.irq_base.specs.declared.status.Cause.TheVariants.{Masked, NoProcessor, BadVector, Mode}
 use Rattle.irq_base.specs.declared.status.Status.{Status}
 use Rattle.irq_base.specs.declared.status.Status.TheVariants.{Coalesced, Ignored}
-use Rattle.pic_8259a.specs.declared.chip.PinOutcome.TheVariants as outcomes
 use Rattle.pic_8259a.specs.Pair.{pin_outcome, is_port}
+use Rattle.ioapic_82093aa.specs.declared.entry.Entry.{Entry as Redirection}
 use Rattle.ioapic_82093aa.specs.declared.ioapic.Raise.{Raise}
 use Rattle.ioapic_82093aa.specs.declared.ioapic.Raise.TheVariants as raises
-use Rattle.ioapic_82093aa.specs.Pins.{raise_of}
+use Rattle.ioapic_82093aa.specs.Pins.{entry_at, raise_of}
 use Rattle.lapic.specs.Messages.{is_nmi, is_taken}
 use Rattle.msi_decode.specs.Messages.{message_in}
-use Rattle.source_levels.specs.Holds.{Holds, hold}
+use Rattle.source_levels.specs.Holds.{Holds, hold, is_high}
 use Rattle.event_counter.specs.Counters.{signalled_all}
 use Rattle.irqfd_set.specs.Rows.{has_resampler}
 use Rattle.ioevent_set.specs.Rows.{rung_by}
@@ -46,7 +46,7 @@ use Rattle.tick_reinject.specs.Ticks.{ticked}
 use Rattle.board_model.specs.declared.trigger.TriggerWord.{TriggerWord}
 use Rattle.board_model.specs.Registry.{RegistryPart}
 use Rattle.board_model.specs.Board.{Board, part_of, with_part}
-use Rattle.board_model.specs.Chips.{pair_of, ioapic_of}
+use Rattle.board_model.specs.Chips.{PicChip, PicPart, IoapicPart, pair_of, ioapic_of}
 use Rattle.board_model.specs.Routing.{Routing, routing_of_registry}
 use Rattle.board_model.specs.Statuses.{TargetAnswer, newly_taken, stood_already, no_effect, first_cause}
 use Rattle.board_model.specs.Plan.{Plan, done, look, put, tell, answer, choose}
@@ -155,17 +155,58 @@ message_on b (Some pin) msi = message_raised (raise_of (ioapic_of b.ioapic) pin)
 message_on b None (Some word) = Some (message_in word.address word.payload)
 message_on b None None = None
 
--- the line of the 8259A pin was high, or its request stood
+-- the 8259A that has a pin of the pair: the master has the pins 0 to 7, the slave 8 to 15 as its levels 0 to 7
+abbrev pub chip_with_pin : PicPart → ℕ → PicChip
+chip_with_pin pic pin = if nat_lt pin 8 then pic.master else pic.slave
+
+-- whether the 8259A masks the pin, by its bit of the IMR
+abbrev pub is_pic_masked : PicPart → ℕ → Bool
+is_pic_masked pic pin = set.contains (chip_with_pin pic pin).imr (pin % 8)
+
+-- the line on which a pin of the pair is: that of a master pin, or of a level of the slave
+abbrev pub line_of : ℕ → ℕ
+line_of pin = if nat_lt pin 8 then pin else pin % 8 + 8
+
+-- each pin of the pair is on the line of its own number
+abbrev pub PicPinsHaveTheirLines : Type 0
+PicPinsHaveTheirLines = (pin : ℕ) → pin < 16 → line_of pin ≡ pin
+
+-- whether the line of a pin of the pair is high: some source holds it
+abbrev pub is_pic_high : PicPart → ℕ → Bool
+is_pic_high pic pin = is_high pic.holds (line_of pin)
+
+-- the pin is edge-triggered, and its request is in the latch
+pub record IsLatched (pic : PicPart) (pin : ℕ) : Type 0 where
+  pub edge : set.contains (chip_with_pin pic pin).elcr (pin % 8) ≡ false
+  pub latched : set.contains (chip_with_pin pic pin).latches (pin % 8) ≡ true
+
+-- the 8259A pin was not masked, and its line was high or its request stood in the latch
 pub record PicStood (b : Board) (targets : Targets) : Type 0 where
   pub pin : ℕ
   pub there : targets.pic ≡ Some pin
-  pub stood : pin_outcome (pair_of b.pic) pin true ≡ outcomes.Stood
+  pub unmasked : is_pic_masked b.pic pin ≡ false
+  pub stood : (is_pic_high b.pic pin ≡ true) ⊎ IsLatched b.pic pin
 
--- the line of the I/O APIC pin was high, or its remote IRR was set
+-- the redirection entry of a pin of the I/O APIC
+abbrev pub redirection_of : IoapicPart → ℕ → Redirection
+redirection_of part pin = entry_at (ioapic_of part) pin
+
+-- the pin is level-triggered, and its remote IRR is set
+pub record HasRemoteIrr (part : IoapicPart) (pin : ℕ) : Type 0 where
+  pub level : (redirection_of part pin).level ≡ true
+  pub remote_irr : (redirection_of part pin).remote_irr ≡ true
+
+-- the pin is edge-triggered, and its line is high: some source holds it
+pub record IsEdgeHigh (part : IoapicPart) (pin : ℕ) : Type 0 where
+  pub edge : (redirection_of part pin).level ≡ false
+  pub high : is_high part.holds pin ≡ true
+
+-- the I/O APIC pin was not masked, and its remote IRR was set or, edge-triggered, its line was high
 pub record IoapicStood (b : Board) (targets : Targets) : Type 0 where
   pub pin : ℕ
   pub there : targets.ioapic ≡ Some pin
-  pub stood : raise_of (ioapic_of b.ioapic) pin ≡ raises.Stood
+  pub unmasked : (redirection_of b.ioapic pin).masked ≡ false
+  pub stood : HasRemoteIrr b.ioapic pin ⊎ IsEdgeHigh b.ioapic pin
 
 -- a processor that the message reached had the request already
 pub record RequestStood (b : Board) (targets : Targets) (stood : Numbers) : Type 0 where
@@ -240,6 +281,28 @@ LapicsStayInPlace = (b : Board) (e : Entry) (c : Board) → LapicsStand b → St
 -- a status without effect is said of its targets and changes no request, in each entry of a legal history
 abbrev pub StatusesWithoutEffectChangeNoRequest : Type 0
 StatusesWithoutEffectChangeNoRequest = (shape : Shape) (p : Point shape) (status : Status) → IsLegal shape p → p.entry.reply ≡ Signal status → is_without_effect status ≡ true → ChangesNoRequest (board_at shape p) p.entry (board_left shape p) status
+
+-- the 8259A pin was masked, by its bit of the IMR
+pub record PicMasked (b : Board) (targets : Targets) : Type 0 where
+  pub pin : ℕ
+  pub there : targets.pic ≡ Some pin
+  pub masked : is_pic_masked b.pic pin ≡ true
+
+-- the I/O APIC pin was masked, by its redirection entry
+pub record IoapicMasked (b : Board) (targets : Targets) : Type 0 where
+  pub pin : ℕ
+  pub there : targets.ioapic ≡ Some pin
+  pub masked : (redirection_of b.ioapic pin).masked ≡ true
+
+-- a call has targets, and a pin of them was masked
+pub record MeetsMask (b : Board) (e : Entry) : Type 0 where
+  pub targets : Targets
+  pub signalled : signal_targets (routing_of_registry b.registry b.shape.tick) b.shape e.call ≡ Some targets
+  pub masked : PicMasked b targets ⊎ IoapicMasked b targets
+
+-- the cause Masked is replied in a legal history only where a pin of the targets was masked
+abbrev pub IgnoredMaskedIsMasked : Type 0
+IgnoredMaskedIsMasked = (shape : Shape) (p : Point shape) → IsLegal shape p → p.entry.reply ≡ Signal (Ignored Masked) → MeetsMask (board_at shape p) p.entry
 
 -- ---- each acknowledge resamples once, in order
 

@@ -1,6 +1,6 @@
 //! The laws of legal histories: functions with no body, the contract of each being a law.
 
-ghost use Rattle.board_step.specs.HistoryLaws.{SendingsAreLogged, RequestsStayPending, EachAcknowledgeResamplesOnce, NoSignalOfDeassignedTrigger, TicksAreConserved, TicksInjectFree, OtherInjectionsFollowAcknowledges, OneInjectionOfAnIrqfd, CoalescedAndIgnoredChangeNoRequest, LapicsStayInPlace, StatusesWithoutEffectChangeNoRequest};
+ghost use Rattle.board_step.specs.HistoryLaws.{SendingsAreLogged, RequestsStayPending, EachAcknowledgeResamplesOnce, NoSignalOfDeassignedTrigger, TicksAreConserved, TicksInjectFree, OtherInjectionsFollowAcknowledges, CoalescedAndIgnoredChangeNoRequest, LapicsStayInPlace, StatusesWithoutEffectChangeNoRequest, PicPinsHaveTheirLines, IgnoredMaskedIsMasked, OneInjectionOfAnIrqfd};
 
 /// A law: the sendings of a run that the next law speaks of are those that its log shows, in order.
 pub fn sendings_are_logged<A>()
@@ -47,13 +47,6 @@ pub fn other_injections_follow_acknowledges()
     ensures { OtherInjectionsFollowAcknowledges }
 {}
 
-/// A law: an entry that makes an irqfd tells no event or one injection of its GSI. A guest write that rings an ioeventfd is
-/// refused, or tells that it rang and, where the counter is the trigger of an irqfd, one injection of its GSI; and no other
-/// entry tells that a counter rang.
-pub fn one_injection_of_an_irqfd()
-    ensures { OneInjectionOfAnIrqfd }
-{}
-
 /// A law: a reply that is Coalesced or Ignored answers a call with targets, and says what stood there or the cause; every IRR
 /// is as before. So it is in each step from a board on which each processor has a local APIC with its number.
 pub fn coalesced_and_ignored_change_no_request()
@@ -69,4 +62,24 @@ pub fn lapics_stay_in_place()
 /// stood there or the cause; every IRR is as before.
 pub fn statuses_without_effect_change_no_request()
     ensures { StatusesWithoutEffectChangeNoRequest }
+{}
+
+/// A law: each of the 16 pins of the 8259A pair is on the line of its own number.
+#[tactic(auto, using(crate::proofs::EffectStood::pic_pins_have_their_lines))]
+pub fn pic_pins_have_their_lines()
+    ensures { PicPinsHaveTheirLines }
+{}
+
+/// A law: in a legal history a reply that is Ignored for the cause Masked answers a call with a target whose pin was masked, by
+/// the IMR of its 8259A or by its redirection entry.
+#[tactic(auto, using(crate::proofs::EffectHistories::ignored_masked_is_masked))]
+pub fn ignored_masked_is_masked()
+    ensures { IgnoredMaskedIsMasked }
+{}
+
+/// A law: an entry that makes an irqfd tells no event or one injection of its GSI. A guest write that rings an ioeventfd is
+/// refused, or tells that it rang and, where the counter is the trigger of an irqfd, one injection of its GSI; and no other
+/// entry tells that a counter rang.
+pub fn one_injection_of_an_irqfd()
+    ensures { OneInjectionOfAnIrqfd }
 {}

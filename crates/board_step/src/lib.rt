@@ -13,10 +13,11 @@ mod sound;
 mod typed;
 
 pub use histories::{
-    coalesced_and_ignored_change_no_request, each_acknowledge_resamples_once, lapics_stay_in_place,
-    no_signal_of_deassigned_trigger, one_injection_of_an_irqfd,
-    other_injections_follow_acknowledges, requests_stay_pending, sendings_are_logged,
-    statuses_without_effect_change_no_request, ticks_are_conserved, ticks_inject_free,
+    coalesced_and_ignored_change_no_request, each_acknowledge_resamples_once,
+    ignored_masked_is_masked, lapics_stay_in_place, no_signal_of_deassigned_trigger,
+    one_injection_of_an_irqfd, other_injections_follow_acknowledges, pic_pins_have_their_lines,
+    requests_stay_pending, sendings_are_logged, statuses_without_effect_change_no_request,
+    ticks_are_conserved, ticks_inject_free,
 };
 pub use laws::{
     always_answers, answers_once, board_after_is_reached, calls_steadily, leads_to_one,
