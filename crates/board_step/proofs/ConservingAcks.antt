@@ -34,25 +34,17 @@ use Rattle.board_step.specs.HistoryLaws.{is_ack_of, acks_in}
 use Rattle.board_step.proofs.ConservingOnce.{injects_before, inject_injects}
 use Rattle.board_step.proofs.ConservingQuiet.{is_quiet, shows_quietly, Quiet, quiet_bind, accept_pin_quiet, send_quiet, let_go_quiet, inject_quiet}
 
--- ---- the injections that events may tell
+-- ---- which events may come
 
--- whether an event may come where these GSIs may be injected
-abbrev pub allows : Bool → (ℕ → Bool) → Event → Bool
-allows rings may (Injected gsi status) = may gsi
-allows rings may (Rang counter) = rings
-allows rings may _ = true
+-- whether an event may come: that of an ioeventfd where one may be rung
+abbrev pub allows : Bool → Event → Bool
+allows rings (Rang counter) = rings
+allows rings _ = true
 
--- the GSIs that may be injected after an event: those from before, after an acknowledge of the tick's GSI that one, and all
--- after an ioeventfd was rung
-abbrev pub may_after : ℕ → (ℕ → Bool) → Event → ℕ → Bool
-may_after tick may (Acked pin (Some gsi)) g = may g || (nat_eq gsi tick && nat_eq g tick)
-may_after tick may (Rang counter) g = true
-may_after tick may _ g = may g
-
--- each event may come after those before it
-abbrev pub Following : ℕ → Bool → (ℕ → Bool) → List Event → Type 0
-Following tick rings may [] = Unit {0}
-Following tick rings may (event ∷ events) = (allows rings may event ≡ true) × Following tick rings (may_after tick may event) events
+-- each event may
+abbrev pub Allowed : Bool → List Event → Type 0
+Allowed rings [] = Unit {0}
+Allowed rings (event ∷ events) = (allows rings event ≡ true) × Allowed rings events
 
 -- the events are quiet
 abbrev AreQuiet : (ℕ → Bool) → List Event → Type 0
@@ -88,7 +80,7 @@ Singly tick may due (event ∷ events) = (admits tick may due event ≡ true) ×
 pub record Conserves {A : Type 0} (tick : ℕ) (rings : Bool) (may : ℕ → Bool) (taken : ℕ) (b : Board) (o : Outcome A) : Type 0 where
   pub reinjects : o.board.tick.reinjects ≡ b.tick.reinjects
   pub pending : b.tick.reinjects ≡ true → o.board.tick.pending ≡ b.tick.pending - (taken + acks_in tick o.log.events)
-  pub follows : Following tick rings may o.log.events
+  pub allowed : Allowed rings o.log.events
   pub singly : Singly tick may false o.log.events
 
 pub acks_append : (gsi : ℕ) (xs ys : List Event) → acks_in gsi (xs ++ ys) ≡ acks_in gsi xs + acks_in gsi ys
@@ -97,11 +89,6 @@ acks_append gsi (x ∷ xs) ys = ap (λ n. is_ack_of gsi x + n) (acks_append gsi 
   where
     sum : (a b c : ℕ) → a + (b + c) ≡ (a + b) + c
     sum a b c = omega arith
-
-or_more : (a b c : Bool) → (a ≡ true → b ≡ true) → (a || c) ≡ true → (b || c) ≡ true
-or_more true b c more h = ap (λ t. t || c) (more refl)
-or_more false true c more h = refl
-or_more false false c more h = h
 
 or_left : (a c : Bool) → a ≡ true → (a || c) ≡ true
 or_left true c h = refl
@@ -158,61 +145,27 @@ module _ (tick : ℕ) (may : ℕ → Bool) where
   silent_singly due (Ipi status ∷ xs) ys h later = (refl, λ _. silent_singly due xs ys h.1 later)
 
 module _ (tick : ℕ) (rings : Bool) where
-  after_more : (may more : ℕ → Bool) (event : Event) → ((g : ℕ) → may g ≡ true → more g ≡ true) → (g : ℕ) → may_after tick may event g ≡ true → may_after tick more event g ≡ true
-  after_more may more (Acked pin None) wider g h = wider g h
-  after_more may more (Acked pin (Some gsi)) wider g h = or_more (may g) (more g) (nat_eq gsi tick && nat_eq g tick) (wider g) h
-  after_more may more (Rang counter) wider g h = refl
-  after_more may more (Resampled counter) wider g h = wider g h
-  after_more may more (Watched counter) wider g h = wider g h
-  after_more may more (Injected gsi status) wider g h = wider g h
-  after_more may more (Resent pin status) wider g h = wider g h
-  after_more may more (Ipi status) wider g h = wider g h
-
-  allows_more : (may more : ℕ → Bool) (event : Event) → ((g : ℕ) → may g ≡ true → more g ≡ true) → allows rings may event ≡ true → allows rings more event ≡ true
-  allows_more may more (Acked pin gsi) wider h = refl
-  allows_more may more (Rang counter) wider h = h
-  allows_more may more (Resampled counter) wider h = refl
-  allows_more may more (Watched counter) wider h = refl
-  allows_more may more (Injected gsi status) wider h = wider gsi h
-  allows_more may more (Resent pin status) wider h = refl
-  allows_more may more (Ipi status) wider h = refl
-
-  -- what may come may come where more may be injected
-  following_more : (may more : ℕ → Bool) (events : List Event) → ((g : ℕ) → may g ≡ true → more g ≡ true) → Following tick rings may events → Following tick rings more events
-  following_more may more [] wider h = tt
-  following_more may more (x ∷ xs) wider h = (allows_more may more x wider h.0, following_more (may_after tick may x) (may_after tick more x) xs (after_more may more x wider) h.1)
-
-  after_all : (may : ℕ → Bool) (event : Event) (g : ℕ) → may g ≡ true → may_after tick may event g ≡ true
-  after_all may (Acked pin None) g h = h
-  after_all may (Acked pin (Some gsi)) g h = or_left (may g) (nat_eq gsi tick && nat_eq g tick) h
-  after_all may (Rang counter) g h = refl
-  after_all may (Resampled counter) g h = h
-  after_all may (Watched counter) g h = h
-  after_all may (Injected gsi status) g h = h
-  after_all may (Resent pin status) g h = h
-  after_all may (Ipi status) g h = h
-
-  following_append : (may : ℕ → Bool) (xs ys : List Event) → Following tick rings may xs → Following tick rings may ys → Following tick rings may (xs ++ ys)
-  following_append may [] ys h later = later
-  following_append may (x ∷ xs) ys h later = (h.0, following_append (may_after tick may x) xs ys h.1 (following_more may (may_after tick may x) ys (after_all may x) later))
+  allowed_append : (xs ys : List Event) → Allowed rings xs → Allowed rings ys → Allowed rings (xs ++ ys)
+  allowed_append [] ys h later = later
+  allowed_append (x ∷ xs) ys h later = (h.0, allowed_append xs ys h.1 later)
 
   -- ---- quiet plans
 
-  quiet_event : (may : ℕ → Bool) (event : Event) → is_quiet may event ≡ true → (allows rings may event ≡ true) × (is_ack_of tick event ≡ 0)
+  quiet_event : (may : ℕ → Bool) (event : Event) → is_quiet may event ≡ true → (allows rings event ≡ true) × (is_ack_of tick event ≡ 0)
   quiet_event may (Acked pin gsi) h = cc
   quiet_event may (Rang counter) h = cc
   quiet_event may (Resampled counter) h = (refl, refl)
   quiet_event may (Watched counter) h = (refl, refl)
-  quiet_event may (Injected gsi status) h = (h, refl)
+  quiet_event may (Injected gsi status) h = (refl, refl)
   quiet_event may (Resent pin status) h = (refl, refl)
   quiet_event may (Ipi status) h = (refl, refl)
 
-  quiet_events : (may : ℕ → Bool) (events : List Event) → AreQuiet may events → (acks_in tick events ≡ 0) × Following tick rings may events
+  quiet_events : (may : ℕ → Bool) (events : List Event) → AreQuiet may events → (acks_in tick events ≡ 0) × Allowed rings events
   quiet_events may [] h = (refl, tt)
   quiet_events may (x ∷ xs) h =
       let one = quiet_event may x h.0 in
       let more = quiet_events may xs h.1 in
-      (none (is_ack_of tick x) (acks_in tick xs) one.1 more.0, (one.0, following_more may (may_after tick may x) xs (after_all may x) more.1))
+      (none (is_ack_of tick x) (acks_in tick xs) one.1 more.0, (one.0, more.1))
     where
       none : (a b : ℕ) → a ≡ 0 → b ≡ 0 → a + b ≡ 0
       none a b e f = omega (arith, e, f)
@@ -306,7 +259,7 @@ module _ (tick : ℕ) (rings : Bool) (may : ℕ → Bool) where
       record {
         reinjects = ap (λ (s : TickState). s.reinjects) o.0;
         pending = λ _. none ((run m b ws).board.tick.pending) b.tick.pending (acks_in tick (run m b ws).log.events) (ap (λ (s : TickState). s.pending) o.0) told.0;
-        follows = told.1;
+        allowed = told.1;
         singly = quiet_singly tick may false (run m b ws).log.events o.1;
       }
     where
@@ -322,7 +275,7 @@ module _ (tick : ℕ) (rings : Bool) (may : ℕ → Bool) where
       let both : Conserves tick rings may (i + j) b (then_run o f) = record {
         reinjects = later.reinjects ∙ first.reinjects;
         pending = λ on. sum r.board.tick.pending o.board.tick.pending b.tick.pending (acks_in tick o.log.events) (acks_in tick r.log.events) (acks_in tick (o.log.events ++ r.log.events)) (later.pending (first.reinjects ∙ on)) (first.pending on) (acks_append tick o.log.events r.log.events);
-        follows = following_append tick rings may o.log.events r.log.events first.follows later.follows;
+        allowed = allowed_append tick rings o.log.events r.log.events first.allowed later.allowed;
         singly = singly_append tick may false o.log.events r.log.events first.singly later.singly;
       } in
       subst (λ (q : Outcome B). Conserves tick rings may (i + j) b q) (sym (run-bind f m b ws)) both
@@ -334,7 +287,7 @@ module _ (tick : ℕ) (rings : Bool) (may : ℕ → Bool) where
   pub bind_conserving : {A B : Type 0} (taken : ℕ) (f : A → Plan B) (m : Plan A) → Conserving tick rings may 0 m → ((a : A) → Conserving tick rings may taken (f a)) → Conserving tick rings may taken (m >>= f)
   bind_conserving {A} {B} taken f m first next = λ b ws.
       let r = then_conserves 0 taken f m b ws (first b ws) next in
-      record { reinjects = r.reinjects; pending = λ on. same (run (m >>= f) b ws).board.tick.pending b.tick.pending (acks_in tick (run (m >>= f) b ws).log.events) (r.pending on); follows = r.follows; singly = r.singly }
+      record { reinjects = r.reinjects; pending = λ on. same (run (m >>= f) b ws).board.tick.pending b.tick.pending (acks_in tick (run (m >>= f) b ws).log.events) (r.pending on); allowed = r.allowed; singly = r.singly }
     where
       same : (left was acks : ℕ) → left ≡ was - (0 + taken + acks) → left ≡ was - (taken + acks)
       same left was acks e = omega (arith, e)
@@ -346,7 +299,7 @@ module _ (tick : ℕ) (rings : Bool) (may : ℕ → Bool) where
       record {
         reinjects = r.reinjects ∙ same;
         pending = λ on. sum (run m (with_part b parts.Tick v) ws).board.tick.pending v.pending b.tick.pending (acks_in tick (run m (with_part b parts.Tick v) ws).log.events) (r.pending (same ∙ on)) (less on);
-        follows = r.follows;
+        allowed = r.allowed;
         singly = r.singly;
       }
     where
@@ -382,16 +335,13 @@ module _ (routing : Routing) (shape : Shape) (rings : Bool) where
   -- ---- an acknowledge
 
   -- its last step takes a tick where the acknowledge that was told is of the tick's GSI
-  end_tick_conserving : (may : ℕ → Bool) (pin : Pin) (gsi : Option ℕ) → Conserving shape.tick rings (may_after shape.tick may (Acked pin gsi)) (is_ack_of shape.tick (Acked pin gsi)) (end_tick routing shape gsi)
-  end_tick_conserving may pin None = quiet_conserving shape.tick rings may (done tt) tt
-  end_tick_conserving may pin (Some gsi) = elim (nat_eq gsi shape.tick) as (λ t. Conserving shape.tick rings (λ g. may g || (t && nat_eq g shape.tick)) (if t then 1 else 0) (if t then acknowledge_tick routing shape else done tt)) [
-    | true ↦ λ b ws. put_conserves shape.tick rings (λ g. may g || nat_eq g shape.tick) 1 (inject_next routing shape (ack_injects b.tick)) b (tick_acked b.tick) ws (tick_acked_same b.tick) (tick_acked_less b.tick)
-        (next_conserving (λ g. may g || nat_eq g shape.tick) (ack_injects b.tick) (or_same (may shape.tick) shape.tick))
-    | false ↦ quiet_conserving shape.tick rings (λ g. may g || false) (done tt) tt
+  end_tick_conserving : (pin : Pin) (gsi : Option ℕ) → Conserving shape.tick rings (λ _. true) (is_ack_of shape.tick (Acked pin gsi)) (end_tick routing shape gsi)
+  end_tick_conserving pin None = quiet_conserving shape.tick rings (λ _. true) (done tt) tt
+  end_tick_conserving pin (Some gsi) = elim (nat_eq gsi shape.tick) as (λ t. Conserving shape.tick rings (λ _. true) (if t then 1 else 0) (if t then acknowledge_tick routing shape else done tt)) [
+    | true ↦ λ b ws. put_conserves shape.tick rings (λ _. true) 1 (inject_next routing shape (ack_injects b.tick)) b (tick_acked b.tick) ws (tick_acked_same b.tick) (tick_acked_less b.tick)
+        (next_conserving (λ _. true) (ack_injects b.tick) refl)
+    | false ↦ quiet_conserving shape.tick rings (λ _. true) (done tt) tt
   ]
-    where
-      or_same : (t : Bool) (n : ℕ) → (t || nat_eq n n) ≡ true
-      or_same t n = grind arith
 
   -- ---- after its acknowledge the tick is injected once at most
 
@@ -436,13 +386,13 @@ module _ (routing : Routing) (shape : Shape) (rings : Bool) where
   acknowledge_conserving : (may : ℕ → Bool) (pin : Pin) → Conserving shape.tick rings may 0 (acknowledge routing shape pin)
   acknowledge_conserving may pin = λ b ws.
       let gsi = routing.gsi_of pin in
-      let after = may_after shape.tick may (Acked pin gsi) in
+      let after : ℕ → Bool = λ _. true in
       let m = tell_concerned routing gsi in
       let f = λ (_ : Unit {0}). end_level shape.cpus pin >> end_tick routing shape gsi in
       let taken = is_ack_of shape.tick (Acked pin gsi) in
       let r = bind_conserving shape.tick rings after taken f m (quiet_conserving shape.tick rings after m (tell_quiet after routing gsi))
-      (λ _. bind_conserving shape.tick rings after taken (λ _. end_tick routing shape gsi) (end_level shape.cpus pin) (quiet_conserving shape.tick rings after (end_level shape.cpus pin) (level_quiet after shape.cpus pin)) (λ _. end_tick_conserving may pin gsi)) b ws in
-      record { reinjects = r.reinjects; pending = λ on. same (run (m >>= f) b ws).board.tick.pending b.tick.pending taken (acks_in shape.tick (run (m >>= f) b ws).log.events) (r.pending on); follows = (refl, r.follows); singly = (refl, λ _. acknowledged_singly may pin gsi b ws) }
+      (λ _. bind_conserving shape.tick rings after taken (λ _. end_tick routing shape gsi) (end_level shape.cpus pin) (quiet_conserving shape.tick rings after (end_level shape.cpus pin) (level_quiet after shape.cpus pin)) (λ _. end_tick_conserving pin gsi)) b ws in
+      record { reinjects = r.reinjects; pending = λ on. same (run (m >>= f) b ws).board.tick.pending b.tick.pending taken (acks_in shape.tick (run (m >>= f) b ws).log.events) (r.pending on); allowed = (refl, r.allowed); singly = (refl, λ _. acknowledged_singly may pin gsi b ws) }
     where
       same : (left was taken acks : ℕ) → left ≡ was - (taken + acks) → left ≡ was - (0 + (taken + acks))
       same left was taken acks e = omega (arith, e)

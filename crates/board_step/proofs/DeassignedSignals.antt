@@ -36,7 +36,7 @@ use Rattle.board_step.specs.History.{opening, Leads, next_board}
 use Rattle.board_step.specs.HistoryLaws.{board_at, board_left, MakesTrigger, ChangesCountAlone, SignalsNothing, rung_on, IsRefusedAlone, RingsAlone, SignalsNoMore, NoSignalOfDeassignedTrigger}
 use Rattle.board_step.proofs.Following.{next_is, board_after_is_reached}
 use Rattle.board_step.proofs.SoundRows.{or_neither}
-use Rattle.board_step.proofs.ConservingAcks.{or_right, allows, may_after, Following, quiet_conserving}
+use Rattle.board_step.proofs.ConservingAcks.{or_right, allows, Allowed, quiet_conserving}
 use Rattle.board_step.proofs.ConservingCalls.{Lets, rung_quiet, call_keeps, tick_keeps}
 use Rattle.board_step.proofs.DeassignedRows.{last_answer, leads_apart, opening_apart, step_off, ends_off}
 
@@ -184,18 +184,18 @@ module _ (counter : ℕ) (b : Board) (ws : Wishes) where
   unless_tells P (Some refusal) plan h = λ rang. absurd (no_member (Rang counter) rang)
 
   -- what is no ring tells no such event
-  none_rang : (tick : ℕ) (may : ℕ → Bool) (events : List Event) → Following tick false may events → Contains events (Rang counter) → ⊥
-  none_rang tick may [] follows rang = no_member (Rang counter) rang
-  none_rang tick may (x ∷ xs) follows rang = elim (first_or_later x (Rang counter) xs rang) [
-    | inl is ↦ true≢false (sym (ap (allows false may) is ∙ follows.0))
-    | inr later ↦ none_rang tick (may_after tick may x) xs follows.1 later
+  none_rang : (events : List Event) → Allowed false events → Contains events (Rang counter) → ⊥
+  none_rang [] allowed rang = no_member (Rang counter) rang
+  none_rang (x ∷ xs) allowed rang = elim (first_or_later x (Rang counter) xs rang) [
+    | inl is ↦ true≢false (sym (ap (allows false) is ∙ allowed.0))
+    | inr later ↦ none_rang xs allowed.1 later
   ]
 
   rung_tells : (k : Option ℕ) → TellsOnly (k ≡ Some counter) (rung routing b.shape k)
   rung_tells None rang = absurd (no_member (Rang counter) rang)
   rung_tells (Some k) rang = elim (first_or_later (Rang k) (Rang counter) (run after b ws).log.events rang) [
     | inl is ↦ let same : k ≡ counter = cc in ap Some same
-    | inr later ↦ absurd (none_rang b.shape.tick (λ _. true) (run after b ws).log.events (quiet_conserving b.shape.tick false (λ _. true) after (rung_quiet (λ _. true) routing b.shape k (routing.trigger k) (λ _. refl)) b ws).follows later)
+    | inr later ↦ absurd (none_rang (run after b ws).log.events (quiet_conserving b.shape.tick false (λ _. true) after (rung_quiet (λ _. true) routing b.shape k (routing.trigger k) (λ _. refl)) b ws).allowed later)
   ]
     where
       after : Plan (Unit {0})
@@ -204,7 +204,7 @@ module _ (counter : ℕ) (b : Board) (ws : Wishes) where
   module _ (caller : Caller) where
     -- a call that needs ring nothing
     silent : (P : Type 0) (call : Call) → Lets false (λ _. true) call → TellsOnly P (plan_on b caller call)
-    silent P call lets rang = absurd (none_rang b.shape.tick (λ _. true) (run (plan_on b caller call) b ws).log.events (call_keeps routing b.shape false (λ _. true) caller call lets b ws).follows rang)
+    silent P call lets rang = absurd (none_rang (run (plan_on b caller call) b ws).log.events (call_keeps routing b.shape false (λ _. true) caller call lets b ws).allowed rang)
 
     port_tells : (port len value : ℕ) → TellsOnly (rung_on b (calls.PortOut port len value) ≡ Some counter) (plan_on b caller (calls.PortOut port len value))
     port_tells port len value = by_port (is_port port) refl
@@ -239,7 +239,7 @@ module _ (counter : ℕ) (b : Board) (ws : Wishes) where
     tick_silent : (P : Type 0) → TellsOnly P (plan_on b caller calls.Tick)
     tick_silent P rang =
         let during = with_part b parts.Tick (ticked b.tick) in
-        absurd (none_rang b.shape.tick (λ _. true) (run (plan_on b caller calls.Tick) b ws).log.events (tick_keeps routing b.shape false (λ _. true) (ticked b.tick) (tick_injects b.tick) during ws).follows rang)
+        absurd (none_rang (run (plan_on b caller calls.Tick) b ws).log.events (tick_keeps routing b.shape false (λ _. true) (ticked b.tick) (tick_injects b.tick) during ws).allowed rang)
 
     -- whatever the call is
     pub call_tells : (call : Call) → TellsOnly (rung_on b call ≡ Some counter) (plan_on b caller call)
