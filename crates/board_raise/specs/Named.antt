@@ -83,8 +83,8 @@ pub record IsOneOfLowest (named : List Processor) (reached : Numbers) (p : Proce
   pub lowest : All (λ other. ppr_of p.apic ≤ ppr_of other.apic) named
   pub alone : reached ≡ set.insert set.empty p.number
 
--- the sets that may be reached: for a message sent to the lowest any one named processor of lowest priority, else all
--- named ones
+-- the sets that may be reached: for a message sent to the lowest any one named processor of lowest priority (this board's own
+-- rule: any of them on a tie), else all named ones
 abbrev pub MayReach : Mode → List Processor → Numbers → Type 0
 MayReach Lowest named reached = Any (IsOneOfLowest named reached) named
 MayReach mode named reached = reached ≡ numbers_of named

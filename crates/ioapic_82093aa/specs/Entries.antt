@@ -26,8 +26,8 @@ entry_at_power_on = record {
 abbrev pub bit : ℕ → Bool → ℕ
 bit place on = if on then 2 ^ place else 0
 
--- the low half: vector in bits 7 to 0, mode in 10 to 8, logical 11, delivery status 12, which reads 0, polarity 13, remote
--- IRR 14, trigger mode 15, mask 16
+-- the low half: vector in bits 7 to 0, mode in 10 to 8, logical 11, delivery status 12, which reads 0, polarity 13, which is
+-- kept and not applied (both this board's own rule), remote IRR 14, trigger mode 15, mask 16
 abbrev pub low_word : Entry → ℕ
 low_word e = e.vector + 2 ^ 8 * e.mode + bit 11 e.logical + bit 13 e.active_low + bit 14 e.remote_irr + bit 15 e.level + bit 16 e.masked
 
@@ -50,7 +50,7 @@ entry_of low high = record {
 
 -- ---- writes
 
--- a write that leaves the entry edge-triggered clears remote IRR
+-- a write that leaves the entry edge-triggered clears remote IRR (this board's own rule)
 abbrev pub settled : Entry → Entry
 settled e = record e { remote_irr = e.remote_irr && e.level }
 

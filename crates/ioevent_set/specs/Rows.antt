@@ -34,7 +34,7 @@ abbrev pub is_same : IoRow → IoRow → Bool
 is_same a b = same_space a.space b.space && (nat_eq a.address b.address && (nat_eq a.len b.len && (nat_eq a.counter b.counter && same_want a.want b.want)))
 
 -- space and address are equal, and either length is 0, or the lengths are equal and either has no match or both matches
--- are equal
+-- are equal (this board's own rule, after Linux)
 abbrev pub do_collide : IoRow → IoRow → Bool
 do_collide a b = same_space a.space b.space && (nat_eq a.address b.address && (nat_eq a.len 0 || (nat_eq b.len 0 || (nat_eq a.len b.len && wants_meet a.want b.want))))
 

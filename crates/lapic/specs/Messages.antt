@@ -50,7 +50,8 @@ answer_to a m =
     else if set.contains a.irr m.vector then Stood
     else New
 
--- the APIC after a message: an NMI is pending whether enabled or not; an illegal vector is error bit 6
+-- the APIC after a message: an NMI is pending whether enabled or not; an illegal vector is error bit 6, the only error that is
+-- recorded (this board's own rule)
 abbrev pub accepted : LocalApic → Message → LocalApic
 accepted a m =
     if is_nmi m.mode then record a { nmi = true }

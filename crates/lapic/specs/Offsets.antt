@@ -36,8 +36,8 @@ kept register value = bit_and value (row_for register).writable
 abbrev pub with_registers : LocalApic → Registers → LocalApic
 with_registers a registers = record a { registers = registers }
 
--- the APIC after a store to a register: bits 27 to 0 of DFR read 1, a write to ESR moves the errors recorded into it, and any
--- write to the EOI register is an end of interrupt
+-- the APIC after a store to a register: bits 27 to 0 of DFR read 1, a write to ESR moves the errors recorded into it (this board's
+-- own rule), and any write to the EOI register is an end of interrupt
 abbrev pub stored : LocalApic → Register → ℕ → LocalApic
 stored a Tpr value = with_registers a (record a.registers { tpr = kept Tpr value })
 stored a Eoi value = ended a

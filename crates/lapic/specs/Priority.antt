@@ -9,8 +9,8 @@ use Rattle.lapic.specs.Registers.{LocalApic}
 abbrev pub class_of : ℕ → ℕ
 class_of vector = vector / 16
 
--- TPR where its class is at least that of the highest vector in service, or none is in service; else that vector with its
--- low four bits 0
+-- TPR where its class is at least that of the highest vector in service (on a tie of classes this board's own rule), or none is
+-- in service; else that vector with its low four bits 0
 abbrev pub priority_over : ℕ → Option ℕ → ℕ
 priority_over tpr None = tpr
 priority_over tpr (Some vector) = if nat_le (class_of vector) (class_of tpr) then tpr else 16 * class_of vector
@@ -23,7 +23,7 @@ ppr_of a = priority_over a.registers.tpr (greatest_vector a.isr)
 unfoldable pub greatest_above : Numbers → ℕ → Option ℕ
 greatest_above vectors priority = greatest_vector (set.retain vectors (λ vector. nat_lt (class_of priority) (class_of vector)))
 
--- the greatest request whose class exceeds that of PPR, or none
+-- the greatest request whose class exceeds that of PPR, or none, whether the APIC is enabled or not (this board's own rule)
 abbrev pub giveable_of : LocalApic → Option ℕ
 giveable_of a = greatest_above a.irr (ppr_of a)
 

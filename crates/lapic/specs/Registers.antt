@@ -36,7 +36,8 @@ abbrev pub row : ℕ → ℕ → ℕ → RegRow
 row offset writable reset = record { offset = offset; readable = 0xffffffff; writable = writable; reset = reset }
 
 -- each register's offset, writable bits and value at power-on; the EOI register alone is not to be read, and the identity,
--- PPR and LINT0 of processor 0 have values of their own
+-- PPR and LINT0 of processor 0 have values of their own. The version and that the identity cannot be written are this board's
+-- own rule
 abbrev pub row_for : Register → RegRow
 row_for Id = row 0x20 0 0
 row_for Version = row 0x30 0 0x00050014

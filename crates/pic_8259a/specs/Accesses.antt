@@ -51,7 +51,7 @@ ended c None = quietly c
 ended c (Some n) = record { after = record c { isr = set.remove c.isr n }; pin = if set.contains c.isr n then Some n else None }
 
 -- the level of a non-specific end of interrupt: the one in service of highest priority, masked ones being passed over in
--- special mask mode
+-- special mask mode (this board's own rule)
 abbrev pub highest_in_service : Chip → Option ℕ
 highest_in_service c = highest_of c.lowest (inhibitors_of c)
 
@@ -62,7 +62,7 @@ rotated e (Some n) = record { after = record e.after { lowest = n }; pin = e.pin
 
 -- OCW2 by its bits 7 to 5 and the level of its bits 2 to 0: 001 is the non-specific end of interrupt, 011 the specific one,
 -- 101 and 111 are the same and rotate, 100 and 000 turn rotation in automatic EOI on and off, 110 sets the lowest level, and
--- 010 is nothing
+-- 010 is nothing; what a rotation leaves is this board's own rule
 abbrev pub commanded_by : ℕ → ℕ → Chip → Effect Chip
 commanded_by command level c =
     if nat_eq command 1 then ended c (highest_in_service c)
@@ -99,7 +99,8 @@ controlled c value =
 -- ---- initialisation
 
 -- ICW1 clears the chip but for its base, its pins, its edge/level register and, with bit 0, automatic EOI and special
--- fully nested mode; bit 1 tells that no ICW3 follows, bit 0 that ICW4 follows
+-- fully nested mode; bit 1 tells that no ICW3 follows, bit 0 that ICW4 follows. That the levels in service are cleared, and
+-- that LTIM and 8080 mode are not told apart, is this board's own rule
 abbrev pub initialised : Chip → ℕ → Chip
 initialised c value =
     record c {
@@ -120,7 +121,8 @@ initialised c value =
 abbrev pub icw4_or_nothing : Bool → Expects
 icw4_or_nothing icw4 = if icw4 then Icw4 else Nothing
 
--- a word at the odd port: the initialisation word that is expected, else the new mask
+-- a word at the odd port: the initialisation word that is expected, else the new mask; ICW3 is not used (this board's own
+-- rule)
 abbrev pub odd_written_by : Expects → Chip → ℕ → Chip
 odd_written_by (Icw2 icw3 icw4) c value = record c { base = value / 8 * 8; expects = if icw3 then Icw3 icw4 else icw4_or_nothing icw4 }
 odd_written_by (Icw3 icw4) c value = record c { expects = icw4_or_nothing icw4 }
@@ -140,7 +142,7 @@ even_written c value = if is_set value 4 then quietly (initialised c value) else
 abbrev pub plainly : Chip → ℕ → Read Chip
 plainly c value = record { after = c; value = value; pin = None }
 
--- what a poll gives, by the top: it ends the poll and acknowledges the top
+-- what a poll gives, by the top: it ends the poll and acknowledges the top (this board's own rule)
 abbrev pub polled_by : Option ℕ → Chip → Read Chip
 polled_by None c = plainly (record c { poll_pending = false }) 0x00
 polled_by (Some t) c =
@@ -159,7 +161,8 @@ odd_read c place = if c.poll_pending then polled c place else plainly c (byte_of
 
 -- ---- pins
 
--- a pin that goes from low to high sets its latch, but for a level-triggered one; a fall leaves the latch
+-- a pin that goes from low to high sets its latch, but for a level-triggered one; a fall leaves the latch (this board's own
+-- rule: an edge stays latched until it is acknowledged or ICW1 comes)
 abbrev pub with_pin : Chip → ℕ → Bool → Chip
 with_pin c pin true = record c {
   high = set.insert c.high pin;

@@ -75,7 +75,8 @@ to_master p e = record { after = record p { master = e.after }; pin = e.pin }
 abbrev pub to_slave : Pair → Effect Chip → Effect Pair
 to_slave p e = record { after = record p { slave = e.after }; pin = slave_pin e.pin }
 
--- a write by port; of the edge/level registers the pins 3 to 7 and 9, 10, 11, 12, 14, 15 can be written
+-- a write by port; of the edge/level registers the pins 3 to 7 and 9, 10, 11, 12, 14, 15 can be written (this board's own
+-- rule)
 abbrev pub written : Pair → Port → ℕ → Effect Pair
 written p MasterEven value = to_master p (even_written p.master value)
 written p MasterOdd value = to_master p (quietly (odd_written p.master value))
@@ -117,7 +118,8 @@ pub record Cycle : Type 0 where
 abbrev pub acked_pins : Option ℕ → Option ℕ → AckedPins
 acked_pins master slave = record { master = master; slave = slave }
 
--- the slave's part, by its top: without one the vector is that of its level 7 and the slave does not change
+-- the slave's part, by its top: without one the vector is that of its level 7 and the slave does not change (this board's own
+-- rule)
 abbrev pub slave_cycle : Option ℕ → Pair → Option ℕ → Cycle
 slave_cycle None p master = record { after = p; vector = p.slave.base + 7; pins = acked_pins master None }
 slave_cycle (Some s) p master = record {
@@ -126,8 +128,8 @@ slave_cycle (Some s) p master = record {
   pins = acked_pins master (slave_pin (acknowledged p.slave s).pin);
 }
 
--- the cycle by the master's top: without one the vector is that of its level 7 and nothing changes; level 2 passes the
--- cycle on to the slave
+-- the cycle by the master's top: without one the vector is that of its level 7 and nothing changes (this board's own rule);
+-- level 2 passes the cycle on to the slave
 abbrev pub cycle_by : Option ℕ → Pair → Cycle
 cycle_by None p = record { after = p; vector = p.master.base + 7; pins = acked_pins None None }
 cycle_by (Some t) p =

@@ -1,4 +1,5 @@
--- The rows of a routing table, the rules that they keep, and the table that they make.
+-- The rows of a routing table (KVM_SET_GSI_ROUTING), the rules that they keep, which are this board's own, and the table that
+-- they make.
 use Rattle.std.specs.Prelude.{ℕ, ◌/◌, ◌^◌, zero, suc, Bool, true, false, not, ◌&&◌, ◌||◌, nat_eq, nat_lt, if◌then◌else◌, List, [], ◌∷◌, ◌++◌, length, Some, None}
 use Rattle.std.specs.List.{list_any}
 use Rattle.std.specs.Option.{option_or, unwrap_or, is_some}

@@ -1,4 +1,5 @@
--- Which sources hold which pins: a line that several devices share is high while one of them holds it.
+-- Which sources hold which pins (KVM_IRQ_LINE, KVM_IRQFD): a line that several devices share is high while one of them holds
+-- it.
 use Rattle.std.specs.Prelude.{◌≡◌, ℕ, ◌+◌, ◌<◌, zero, suc, Bool, nat_eq, refl}
 use Rattle.std.proofs.Common.{ap, arith}
 use Rattle.std.specs.Coded.{Coded, coded_ℕ, coded×, code_by}

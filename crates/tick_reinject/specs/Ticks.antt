@@ -1,5 +1,5 @@
--- Tick reinjection, this board's own rule after KVM's: a tick is pending from its fall to its acknowledge, and the next is
--- injected when the state is free.
+-- Tick reinjection, this board's own rule after KVM's: a tick is pending from its fall to its acknowledge, and one that
+-- falls is injected at once where the state is free, else it waits for an acknowledge.
 use Rattle.std.specs.Prelude.{◌+◌, ◌-◌, Bool, true, false, not, ◌&&◌, ◌||◌, nat_lt, if◌then◌else◌}
 use Rattle.irq_base.specs.declared.status.Status.{Status}
 use Rattle.irq_base.specs.declared.status.Status.TheVariants.{Ignored}
