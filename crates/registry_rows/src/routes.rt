@@ -97,6 +97,8 @@ fn routes(rt: HostRuntime) -> Result<(), Fail> {
         assert_eq!(rt; table.gsi_of(Pin::Ioapic(n)), Some(n as u16));
     }
     assert_eq!(rt; table.targets(24), pins(None, None));
+    assert_eq!(rt; table.gsi_of(Pin::Pic(16)), None);
+    assert_eq!(rt; table.gsi_of(Pin::Ioapic(24)), None);
     let one = rows_of(rt.alloc(), &[pic(5, 6)])?;
     assert_eq!(rt; table.replace(&one), Ok(()));
     assert_eq!(rt; table.targets(5), pins(Some(6), None));

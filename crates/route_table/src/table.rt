@@ -1,9 +1,9 @@
 //! The routing table.
-ghost use Rattle.std.specs.Prelude.{◌≡◌, ℕ, List, ◌<◌, IfOk, OnErr, OnOk, MatchResult, IfSome, IsTrue, Some, None, []};
+ghost use Rattle.std.specs.Prelude.{◌≡◌, ℕ, List, ◌<◌, IfOk, OnErr, OnOk, MatchResult, IfSome, IsTrue, Some, None, [], slice_index};
 ghost use Rattle.irq_base.specs.declared.call.Row.{Row as RouteRow};
 ghost use Rattle.route_table.specs.Words.{is_route};
 ghost use Rattle.route_table.specs.Rows.{refusal_of, table_of, targets_of};
-ghost use Rattle.route_table.specs.Pins.{IsPin, gsi_of};
+ghost use Rattle.route_table.specs.Pins.{gsi_of};
 ghost use Rattle.route_table.specs.TableLaws.{gsi_told};
 ghost use Rattle.route_table.specs.Defaults.{pic_rows, ioapic_rows, default_rows};
 
@@ -124,16 +124,15 @@ impl Table {
         route_at(self.words.as_slice(), gsi)
     }
 
-    /// The GSI that goes to a pin, or none.
+    /// The GSI that goes to a pin, or none, as for a pin that the chip does not have.
     #[tactic(auto, using(crate::specs::Filled::pin_rules))]
     pub fn gsi_of(&self, pin: Pin) -> Option<u16>
-        requires { IsPin pin }
         ensures value { result ≡ gsi_of self.now pin }
         ensures range { IfSome result (λ gsi. gsi < 4096) }
     {
         match pin {
-            Pin::Pic(number) => gsi_told(self.pics[number as usize]),
-            Pin::Ioapic(number) => gsi_told(self.ioapics[number as usize]),
+            Pin::Pic(number) => gsi_told(owner_at(&self.pics, number)),
+            Pin::Ioapic(number) => gsi_told(owner_at(&self.ioapics, number)),
         }
     }
 
@@ -157,6 +156,17 @@ impl Table {
             .copy_from_slice(other.words.as_slice());
         self.pics = other.pics;
         self.ioapics = other.ioapics;
+    }
+}
+
+// The word of a pin, and that of no GSI for a pin that the chip does not have.
+fn owner_at(owners: &[u16], number: u8) -> u16
+    ensures { result ≡ slice_index owners.now number }
+{
+    if (number as usize) < owners.len() {
+        owners[number as usize]
+    } else {
+        0
     }
 }
 
