@@ -17,7 +17,7 @@ use Rattle.ioapic_82093aa.specs.declared.ioapic.Raise.{Raise}
 use Rattle.ioapic_82093aa.specs.declared.ioapic.Raise.TheVariants as raises
 use Rattle.ioapic_82093aa.specs.Pins.{raise_of, accepted, entry_at, acknowledged, resend_of}
 use Rattle.msi_decode.specs.Messages.{message_in}
-use Rattle.event_counter.specs.Counters.{signalled_all}
+use Rattle.irq_base.specs.Counts.{signalled_all}
 use Rattle.resampler.specs.Resample.{resampled, resample_events}
 use Rattle.ack_notifiers.specs.Rows.{watched, watch_events}
 use Rattle.irqfd_set.specs.Rows.{has_resampler}

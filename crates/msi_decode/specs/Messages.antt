@@ -1,14 +1,11 @@
 -- The message that an address and a payload stand for (SDM volume 3, message address and message data register formats).
 use Rattle.std.specs.Prelude.{ℕ, ◌+◌, ◌-◌, ◌/◌, ◌%◌, ◌^◌, ◌==◌, Bool, true, false, ◌&&◌, if◌then◌else◌, Some, None}
 use Rattle.std.specs.declared.option.Option.{Option}
+use Rattle.irq_bits.specs.Fields.{bits_of}
 use Rattle.irq_bits.specs.Members.{is_set}
 use Rattle.irq_base.specs.declared.message.Mode.{Mode}
 use Rattle.irq_base.specs.declared.message.Mode.TheVariants.{Fixed, Lowest, Smi, Nmi, Init, ExtInt, Reserved}
 use Rattle.irq_base.specs.declared.message.Message.{Message}
-
--- bits `high` to `low` of a word
-abbrev pub bits_of : ℕ → ℕ → ℕ → ℕ
-bits_of word high low = word / 2 ^ low % 2 ^ (high + 1 - low)
 
 -- the delivery mode of a number; 011 and 110 are reserved
 abbrev pub mode_of : ℕ → Mode
