@@ -21,7 +21,8 @@ abbrev pub is_nmi : Mode → Bool
 is_nmi Nmi = true
 is_nmi _ = false
 
--- the modes of messages that a local APIC takes
+-- the modes of messages that a local APIC takes; that SMI, INIT, start-up and ExtINT messages are left out is this board's own
+-- rule
 abbrev pub is_taken : Mode → Bool
 is_taken Fixed = true
 is_taken Lowest = true
