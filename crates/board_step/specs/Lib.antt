@@ -9,4 +9,3 @@ pub mod Reach
 pub mod Sound
 pub mod History
 pub mod Laws
-pub mod HistoryLaws
