@@ -16,12 +16,12 @@ use Rattle.irq_base.specs.declared.shape.Shape.{Shape}
 use Rattle.board_model.specs.Board.{Board, part_of}
 use Rattle.board_model.specs.Published.{published}
 use Rattle.board_model.specs.Following.{IsSteady}
-use Rattle.board_model.specs.Run.{Wishes, reaches as plan_reaches, run}
+use Rattle.board_model.specs.Run.{Wishes, Log, reaches as plan_reaches, run}
 use Rattle.board_raise.specs.Fit.{InLimits}
-use Rattle.board_step.specs.Step.{refusal_of, would_publish, spent_of, plan_on, Step}
+use Rattle.board_step.specs.Step.{refusal_of, would_publish, spent_of, plan_on, outcome_of, Step}
 use Rattle.board_step.specs.Reach.{reach}
 use Rattle.board_step.specs.Sound.{IsSound}
-use Rattle.board_step.specs.History.{opening, Leads, board_after}
+use Rattle.board_step.specs.History.{opening, Leads, wishes_shown, next_board, board_after}
 
 -- ---- a step leads to one board
 
@@ -36,6 +36,17 @@ BoardAfterIsReached = (b : Board) (es : List Entry) (c : Board) → Leads b es c
 -- the choices of a call can be followed, whatever it does
 abbrev pub CallsSteadily : Type 0
 CallsSteadily = (b : Board) (caller : Caller) (call : Call) → IsSteady (plan_on b caller call)
+
+-- under the wishes that its entry shows a step has this reply, these events, this log and leads to this board
+pub record IsFollowed (b : Board) (e : Entry) (c : Board) (log : Log) : Type 0 where
+  pub replied : (outcome_of b e (wishes_shown e)).log.answers ≡ e.reply ∷ []
+  pub told : (outcome_of b e (wishes_shown e)).log.events ≡ e.events
+  pub logged : (outcome_of b e (wishes_shown e)).log ≡ log
+  pub leads : next_board b e ≡ c
+
+-- each step is followed by what its entry shows: whatever wishes made it, its log is that of the wishes shown
+abbrev pub StepsAreFollowed : Type 0
+StepsAreFollowed = (b : Board) (e : Entry) (c : Board) (step : Step b e c) → IsFollowed b e c (outcome_of b e step.wishes).log
 
 -- ---- a call always answers
 

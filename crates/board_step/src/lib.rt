@@ -13,7 +13,7 @@ mod typed;
 
 pub use laws::{
     always_answers, answers_once, board_after_is_reached, calls_steadily, leads_to_one,
-    refused_rightly, refuses_first, steps_tell_few, words_stay,
+    refused_rightly, refuses_first, steps_are_followed, steps_tell_few, words_stay,
 };
 pub use reach::{depends_on_reach, reach_is_table, stays_outside_reach};
 pub use sound::{histories_keep_sound, opening_is_sound, steps_keep_sound};
