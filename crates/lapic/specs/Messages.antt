@@ -1,6 +1,6 @@
 -- How a local APIC takes a message, and the message that it sends itself (SDM volume 3, interrupt acceptance for fixed
 -- interrupts, error handling, interrupt command register).
-use Rattle.std.specs.Prelude.{ℕ, ◌+◌, ◌-◌, ◌/◌, ◌%◌, ◌^◌, ◌==◌, Bool, true, false, not, nat_lt, bit_or, if◌then◌else◌}
+use Rattle.std.specs.Prelude.{ℕ, ◌^◌, ◌==◌, Bool, true, false, not, nat_lt, bit_or, if◌then◌else◌}
 use Rattle.std.specs.FinSet as set
 use Rattle.irq_bits.specs.Fields.{bits_of}
 use Rattle.irq_bits.specs.Members.{Numbers, is_set}
@@ -21,7 +21,8 @@ abbrev pub is_nmi : Mode → Bool
 is_nmi Nmi = true
 is_nmi _ = false
 
--- the modes of messages that a local APIC takes
+-- the modes of messages that a local APIC takes; that SMI, INIT, start-up and ExtINT messages are left out is this board's own
+-- rule
 abbrev pub is_taken : Mode → Bool
 is_taken Fixed = true
 is_taken Lowest = true

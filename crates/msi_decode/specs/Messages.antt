@@ -23,7 +23,8 @@ hint_in address = is_set address 3
 abbrev pub logical_in : ℕ → Bool
 logical_in address = is_set address 2
 
--- the fields of the payload: vector in bits 7 to 0, mode in bits 10 to 8, level in bit 15
+-- the fields of the payload: vector in bits 7 to 0, mode in bits 10 to 8, level in bit 15; bit 14, which tells assert from
+-- deassert, is not applied (this board's own rule)
 abbrev pub vector_in : ℕ → ℕ
 vector_in payload = bits_of payload 7 0
 
