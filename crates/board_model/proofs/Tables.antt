@@ -1,9 +1,9 @@
 -- Equal words of sound registries decide the routing table; and how many words there are.
-use Rattle.std.proofs.Common.{◌≡◌, ℕ, ◌<◌, zero, suc, if◌then◌else◌, List, refl, sym, ap, ◌∙◌, arith}
+use Rattle.std.proofs.Common.{◌≡◌, ℕ, ◌<◌, zero, suc, if◌then◌else◌, List, None, refl, sym, ap, ◌∙◌, arith}
 use Rattle.std.specs.FinMap as map
 use Rattle.irq_base.specs.declared.call.Row.{Row}
 use Rattle.irq_base.specs.declared.message.Targets.{Targets}
-use Rattle.route_table.specs.Rows.{Table, has_target, targets_by, table_below, table_of, targets_of}
+use Rattle.route_table.specs.Rows.{refusal_of, has_target, targets_by, table_below, table_of, targets_of}
 use Rattle.route_table.proofs.TableLaws.{targets_of-rows}
 use Rattle.board_model.specs.Routing.{Routing, routing_of_registry}
 use Rattle.board_model.specs.Laws.{PublishesAsMany, PublishedDecidesTheTable}
@@ -31,10 +31,10 @@ same_table rows others same =
 pub published_decides_the_table : PublishedDecidesTheTable
 published_decides_the_table registry other tick other_tick both = one.2 ∙ same_table one.0 two.0 same ∙ sym two.2
   where
-    one : (rows : List Row) × _ × (registry.table ≡ table_of rows)
+    one : (rows : List Row) × (refusal_of rows ≡ None) × (registry.table ≡ table_of rows)
     one = both.sound.table.made
 
-    two : (rows : List Row) × _ × (other.table ≡ table_of rows)
+    two : (rows : List Row) × (refusal_of rows ≡ None) × (other.table ≡ table_of rows)
     two = both.other_sound.table.made
 
     told : (gsi : ℕ) → targets_of registry.table gsi ≡ targets_of other.table gsi

@@ -10,6 +10,5 @@ pub mod Publications
 pub mod Sound
 pub mod History
 pub mod Laws
-pub mod HistoryLaws
 pub mod Bodies
 pub mod Whole

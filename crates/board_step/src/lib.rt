@@ -2,12 +2,11 @@
 //!
 //! Reading order of the definitions: `Refusals` (why a call is refused), `Registrations`, `Ticks`, `Processors` and `Accesses`
 //! (what each call does), `Calls` (all of them), `Step` (one call is one step), `Reach`, `Sound`, `History`, and then what holds
-//! of every step and along every legal history: `Laws`, `HistoryLaws`. The functions here do nothing; the contract of each is a
-//! law.
+//! of every step: `Laws`. The functions here do nothing; the contract of each is a law. What holds along every legal history
+//! stands in `board_laws`.
 #![tactic(auto)]
 
 mod bodies;
-mod histories;
 mod laws;
 mod publications;
 mod reach;
@@ -16,13 +15,6 @@ mod typed;
 mod whole;
 
 pub use bodies::{bodies_step, done_leads};
-pub use histories::{
-    coalesced_and_ignored_change_no_request, each_acknowledge_resamples_once,
-    ignored_masked_is_masked, lapics_stay_in_place, no_signal_of_deassigned_trigger,
-    one_injection_of_an_irqfd, other_injections_follow_acknowledges, pic_pins_have_their_lines,
-    requests_stay_pending, sendings_are_logged, statuses_without_effect_change_no_request,
-    ticks_are_conserved, ticks_inject_free,
-};
 pub use laws::{
     always_answers, answers_once, board_after_is_reached, calls_steadily, leads_to_one,
     refused_rightly, refuses_first, steps_tell_few, words_stay,

@@ -1,0 +1,22 @@
+//! Ticks, as laws: the functions do nothing.
+
+ghost use Rattle.board_laws.specs.Ticks.{TicksAreConserved, TicksInjectFree, OtherInjectionsFollowAcknowledges};
+
+/// A law: in a legal history, from the start of reinjection on, at power-on or by `TickMode`, and until the mode is set
+/// again, the ticks that fell are those that are pending and those that acknowledges took.
+#[tactic(auto, using(crate::proofs::ConservingTicks::ticks_are_conserved))]
+pub fn ticks_are_conserved()
+    ensures { TicksAreConserved }
+{}
+
+/// A law: under reinjection a tick that falls is injected only where the state is free; else it is held back, which tells no
+/// event and changes no part but the tick state.
+pub fn ticks_inject_free()
+    ensures { TicksInjectFree }
+{}
+
+/// A law: where an entry rings no ioeventfd and makes no irqfd, each injection that it tells is of the tick, and follows an
+/// acknowledge of the tick's GSI with no other acknowledge and no other injection between.
+pub fn other_injections_follow_acknowledges()
+    ensures { OtherInjectionsFollowAcknowledges }
+{}
