@@ -78,9 +78,9 @@ with_told before told = take 640 (before ++ told)
 -- a body gave what a run gave: its one reply, its events behind those before, the parts and the wishes left
 pub record IsGiven (reply : Reply) (before events : List Event) (after left : Parts) (later wishes : Wishes) (log : Log) : Type 0 where
   pub answers : log.answers ≡ reply ∷ []
-  pub events : events ≡ with_told before log.events
+  pub noted : events ≡ with_told before log.events
   pub parts : after ≡ left
-  pub wishes : later ≡ wishes
+  pub left_over : later ≡ wishes
 
 -- what a body answered, and the events, parts and wishes after it, are those of a run; or it names what the run lacks
 abbrev pub Did : Result Reply Lacks → List Event → List Event → Parts → Wishes → OnParts (Unit {0}) → Type 0
@@ -92,7 +92,7 @@ Did (Err l) before events after later (lacks p) = l.part ≡ p
 -- the answer of a body is a step from the board, with events of which the list has those that found room
 pub record Stepped (b : Board) (caller : Caller) (call : Call) (q left : Parts) (reply : Reply) (before events : List Event) : Type 0 where
   pub told : List Event
-  pub events : events ≡ with_told before told
+  pub noted : events ≡ with_told before told
   pub leads : IsStepFrom b caller call q left reply told
 
 -- a body made a step from the board, or it names a part of the reach that is not in hand

@@ -47,9 +47,9 @@ abbrev pub HistoriesKeepTheFrame : Type 0
 HistoriesKeepTheFrame = (b : Board) (es : List Entry) (c : Board) → Leads b es c → CountsEntries b es c
 
 -- the frame of a board after entries from power-on
-pub record IsFrameAfter (shape : Shape) (es : List Entry) (last : Board) : Type 0 where
-  pub shape : last.shape ≡ shape
-  pub lapics : length last.lapics ≡ shape.cpus
+pub record IsFrameAfter (first : Shape) (es : List Entry) (last : Board) : Type 0 where
+  pub shape : last.shape ≡ first
+  pub lapics : length last.lapics ≡ first.cpus
   pub length : last.length ≡ length es
   pub publications : last.publications ≡ count_by is_publication es
 

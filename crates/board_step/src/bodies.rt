@@ -6,13 +6,13 @@ ghost use Rattle.board_step.specs.Bodies.{BodiesStep, DoneLeads};
 /// whose registry is sound, which has those words and agrees with the parts: the parts left are those of the board after it,
 /// and all of the reach was in hand. Where the run lacks a part, it is one of the reach that is not in hand. Only the step
 /// itself asks that the call may be made there.
-#[tactic(auto, using(crate::proofs::Bodies::bodies_step))]
+#[tactic(auto, using(crate::proofs::BodySteps::bodies_step))]
 pub fn bodies_step()
     ensures { BodiesStep }
 {}
 
 /// A law: so it is of what a body did in code, whose reply, events and parts are those of the run.
-#[tactic(auto, using(crate::proofs::Bodies::done_leads))]
+#[tactic(auto, using(crate::proofs::BodySteps::done_leads))]
 pub fn done_leads()
     ensures { DoneLeads }
 {}

@@ -20,10 +20,12 @@ pub use laws::{
     refused_rightly, refuses_first, steps_tell_few, words_stay,
 };
 pub use publications::{
-    histories_keep_the_frame, legal_histories_count, publications_reach_the_registry, reach_is_there,
-    steps_keep_the_frame, steps_show_publications,
+    histories_keep_the_frame, legal_histories_count, publications_reach_the_registry,
+    reach_is_there, steps_keep_the_frame, steps_show_publications,
 };
 pub use reach::{depends_on_reach, reach_is_table, stays_outside_reach};
 pub use sound::{histories_keep_sound, opening_is_sound, steps_keep_sound};
 pub use typed::calls_are_typed;
-pub use whole::{all_parts_are_whole, board_has_its_parts, parts_make_their_board, whole_parts_are_all};
+pub use whole::{
+    all_parts_are_whole, board_has_its_parts, parts_make_their_board, whole_parts_are_all,
+};

@@ -4,7 +4,6 @@ ghost use Rattle.board_step.specs.Publications.{StepsShowPublications, Publicati
 ghost use Rattle.board_step.specs.Publications.{HistoriesKeepTheFrame, LegalHistoriesCount, ReachIsThere};
 
 /// A law: whether a step is a publication shows in its entry.
-#[tactic(auto, using(crate::proofs::Publishing::steps_show_publications))]
 pub fn steps_show_publications()
     ensures { StepsShowPublications }
 {}
@@ -17,7 +16,6 @@ pub fn publications_reach_the_registry()
 
 /// A law: a step leaves the shape and the number of local APICs, adds one to the calls, and one to the publications exactly
 /// where its entry is one.
-#[tactic(auto, using(crate::proofs::Publishing::steps_keep_the_frame))]
 pub fn steps_keep_the_frame()
     ensures { StepsKeepTheFrame }
 {}

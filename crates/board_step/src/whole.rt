@@ -3,13 +3,12 @@
 ghost use Rattle.board_step.specs.Whole.{BoardHasItsParts, PartsMakeTheirBoard, AllPartsAreWhole, WholePartsAreAll};
 
 /// A law: the board of some parts has just these, where none is missing.
-#[tactic(auto, using(crate::proofs::Whole::board_has_its_parts))]
 pub fn board_has_its_parts()
     ensures { BoardHasItsParts }
 {}
 
 /// A law: the board of all parts of a board is that board.
-#[tactic(auto, using(crate::proofs::Whole::parts_make_their_board))]
+#[tactic(auto, using(crate::proofs::WholeParts::parts_make_their_board))]
 pub fn parts_make_their_board()
     ensures { PartsMakeTheirBoard }
 {}
@@ -20,7 +19,7 @@ pub fn all_parts_are_whole()
 {}
 
 /// A law: parts of a board, none of which is missing, are all its parts.
-#[tactic(auto, using(crate::proofs::Whole::whole_parts_are_all))]
+#[tactic(auto, using(crate::proofs::WholeParts::whole_parts_are_all))]
 pub fn whole_parts_are_all()
     ensures { WholePartsAreAll }
 {}

@@ -4,9 +4,11 @@ use Rattle.std.specs.Prelude.{unwrap_or}
 use Rattle.std.specs.declared.option.Option.{Option}
 use Rattle.irq_base.specs.declared.shape.Part.TheVariants.{Registry, Counters, Tick, Pic, Ioapic, Lapic}
 use Rattle.lapic.specs.Registers.{LocalApic, power_on}
+use Rattle.tick_reinject.specs.Ticks.{in_mode}
 use Rattle.board_model.specs.Board.{Board}
 use Rattle.irq_base.specs.declared.shape.Part.{Part}
 use Rattle.board_model.specs.Hand.{flat, part_in, all_parts}
+use Rattle.board_step.specs.History.{opening_registry, opening_pic, opening_ioapic}
 use Rattle.board_step.specs.Whole.{is_part, BoardHasItsParts, PartsMakeTheirBoard, AllPartsAreWhole, WholePartsAreAll}
 
 -- ---- one part
@@ -69,11 +71,11 @@ below_of n cpus low = grind arith
 
 pub board_has_its_parts : BoardHasItsParts
 board_has_its_parts shape q calls publications whole = λ i. record {
-  registry = told q.registry _ (whole.each Registry refl) i;
-  counters = told q.counters _ (whole.each Counters refl) i;
-  tick = told q.tick _ (whole.each Tick refl) i;
-  pic = told q.pic _ (whole.each Pic refl) i;
-  ioapic = told q.ioapic _ (whole.each Ioapic refl) i;
+  registry = told q.registry opening_registry (whole.each Registry refl) i;
+  counters = told q.counters [] (whole.each Counters refl) i;
+  tick = told q.tick (in_mode true) (whole.each Tick refl) i;
+  pic = told q.pic opening_pic (whole.each Pic refl) i;
+  ioapic = told q.ioapic opening_ioapic (whole.each Ioapic refl) i;
   lapics = row_told q.lapics (λ n low. whole.each (Lapic n) (below_is n shape.cpus (omega (arith, low, whole.places)))) i;
 }
 

@@ -79,7 +79,7 @@ module _ (b : Board) (caller : Caller) (call : Call) (q : Parts) (before events 
       let same : worth.reply ≡ reply = first_is worth.reply reply (sym worth.answered ∙ did.answers) in
       record {
         told = log.events;
-        events = did.events;
+        noted = did.noted;
         leads = subst (λ (x : Reply × Parts). IsStepFrom b caller call q x.1 x.0 log.events) (λ i. (same i, sym did.parts i)) worth.leads;
       }
   leads (Ok reply) (lacks p) did worth = absurd did
