@@ -12,8 +12,10 @@ use Rattle.irq_base.specs.declared.refusal.Refusal.{Refusal}
 use Rattle.irq_base.specs.declared.reply.Reply.{Reply}
 use Rattle.irq_base.specs.declared.reply.Reply.TheVariants.{Refused}
 use Rattle.irq_base.specs.declared.shape.Part.{Part}
+use Rattle.irq_base.specs.declared.shape.Part.TheVariants.{Registry, Counters, Tick, Pic, Ioapic, Lapic}
 use Rattle.irq_base.specs.declared.shape.Shape.{Shape}
 use Rattle.board_model.specs.Board.{Board, part_of}
+use Rattle.board_model.specs.Registry.{RegistryPart}
 use Rattle.board_model.specs.Published.{published}
 use Rattle.board_model.specs.Following.{IsSteady}
 use Rattle.board_model.specs.Run.{Wishes, Log, reaches as plan_reaches, run}
@@ -80,11 +82,26 @@ ReachIsTable = (b : Board) (caller : Caller) (call : Call) (ws : Wishes) (q : Pa
 abbrev pub StaysOutsideReach : Type 0
 StaysOutsideReach = (b : Board) (e : Entry) (c : Board) (q : Part) → Step b e c → reach b e.caller e.call q ≡ false → part_of c q ≡ part_of b q
 
+-- two registries have the same registrations
+pub record SameRegistrations (registry other : RegistryPart) : Type 0 where
+  pub irqfds : registry.irqfds ≡ other.irqfds
+  pub watches : registry.watches ≡ other.watches
+  pub ioevents : registry.ioevents ≡ other.ioevents
+
+-- two boards have a part the same; of the registry the registrations alone, since published words tell the table
+abbrev pub SamePart : Board → Board → Part → Type 0
+SamePart b d Registry = SameRegistrations b.registry d.registry
+SamePart b d Counters = b.counters ≡ d.counters
+SamePart b d Tick = b.tick ≡ d.tick
+SamePart b d Pic = b.pic ≡ d.pic
+SamePart b d Ioapic = b.ioapic ≡ d.ioapic
+SamePart b d (Lapic n) = part_of b (Lapic n) ≡ part_of d (Lapic n)
+
 -- two boards of one shape that publish the same words, and agree on what a call of that caller reaches
 pub record AgreesForCall (b d : Board) (caller : Caller) (call : Call) : Type 0 where
   pub shape : b.shape ≡ d.shape
   pub words : published b.registry b.shape.tick ≡ published d.registry d.shape.tick
-  pub parts : (q : Part) → reach b caller call q ≡ true → part_of b q ≡ part_of d q
+  pub parts : (q : Part) → reach b caller call q ≡ true → SamePart b d q
 
 -- an entry that leads from b to c is a step from d too, with the same reach, and the parts of the reach are the same after it
 pub record StepsAlike (b d : Board) (e : Entry) (c : Board) : Type 0 where

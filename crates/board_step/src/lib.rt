@@ -6,15 +6,26 @@
 //! stands in `board_laws`.
 #![tactic(auto)]
 
+mod bodies;
 mod laws;
+mod publications;
 mod reach;
 mod sound;
 mod typed;
+mod whole;
 
+pub use bodies::{bodies_step, done_leads};
 pub use laws::{
     always_answers, answers_once, board_after_is_reached, calls_steadily, leads_to_one,
     refused_rightly, refuses_first, steps_are_followed, steps_tell_few, words_stay,
 };
+pub use publications::{
+    histories_keep_the_frame, legal_histories_count, publications_reach_the_registry,
+    reach_is_there, steps_keep_the_frame, steps_show_publications,
+};
 pub use reach::{depends_on_reach, reach_is_table, stays_outside_reach};
 pub use sound::{histories_keep_sound, opening_is_sound, steps_keep_sound};
 pub use typed::calls_are_typed;
+pub use whole::{
+    all_parts_are_whole, board_has_its_parts, parts_make_their_board, whole_parts_are_all,
+};
