@@ -79,7 +79,8 @@ sendings_shown b e = sendings_of (plan_on b e.caller e.call) b (wishes_shown e)
 -- each sending of the entry stands
 abbrev pub SendingsStand : Shape → Point → Type 0
 SendingsStand shape p =
-    All (λ (made : Board × Sending). SendingStands shape (board_left shape p) p.after made.0 made.1) (sendings_shown (board_at shape p) p.entry)
+    All (λ (made : Board × Sending). SendingStands shape (board_left shape p) p.after made.0 made.1)
+    (sendings_shown (board_at shape p) p.entry)
 
 -- so it is at each point of a history
 abbrev pub RequestsStayPending : Shape → List Entry → Type 0
