@@ -231,7 +231,7 @@ ioapic_word-is routing pin below =
     place : (k : ℕ) → 4368 + k ≡ 4096 + (256 + (16 + k))
     place k = omega arith
 
-length-words_of : (routing : Routing) → length (words_of routing) ≡ 4392
+pub length-words_of : (routing : Routing) → length (words_of routing) ≡ 4392
 unfolding words_of
 length-words_of routing = simp (length-append, length-each_below)
 
