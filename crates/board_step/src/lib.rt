@@ -6,19 +6,26 @@
 //! stands in `board_laws`.
 #![tactic(auto)]
 
+mod board;
 mod bodies;
+mod due;
 mod laws;
+mod open;
+mod opening;
 mod publications;
 mod reach;
 mod sound;
 mod typed;
 mod whole;
 
+pub use board::Board;
 pub use bodies::{bodies_step, done_leads};
+pub use due::Due;
 pub use laws::{
     always_answers, answers_once, board_after_is_reached, calls_steadily, leads_to_one,
     refused_rightly, refuses_first, steps_tell_few, words_stay,
 };
+pub use open::OpenError;
 pub use publications::{
     histories_keep_the_frame, legal_histories_count, publications_reach_the_registry,
     reach_is_there, steps_keep_the_frame, steps_show_publications,
