@@ -2,8 +2,10 @@
 //!
 //! Reading order of the definitions: `Refusals` (why a call is refused), `Registrations`, `Ticks`, `Processors` and `Accesses`
 //! (what each call does), `Calls` (all of them), `Step` (one call is one step), `Reach`, `Sound`, `History`, and then what holds
-//! of every step: `Laws`. The functions here do nothing; the contract of each is a law. What holds along every legal history
-//! stands in `board_laws`.
+//! of every step: `Laws`, `Publications`; what a body is worth that runs a call on parts in hand: `Bodies`; the board of all
+//! parts: `Whole`, `Opening`, `Owned`, `Due`. What holds along every legal history stands in `board_laws`.
+//!
+//! `Board` is the board on one thread. The functions without a body are laws: the contract of each is what holds.
 #![tactic(auto)]
 
 mod board;
