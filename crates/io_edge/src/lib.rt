@@ -14,5 +14,5 @@ mod word;
 pub use edge::{Failed, Sink, Source};
 pub use gate::{Gate, OpenGate};
 pub use memory::{MemSink, MemSource, NoMemory, QuietSource};
-pub use standard::{StdSink, StdSource};
+pub use standard::{Reader, StdSink, StdSource, Writer};
 pub use word::Word;

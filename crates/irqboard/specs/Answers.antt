@@ -10,7 +10,7 @@ use Rattle.irqboard.specs.SmallForm.{script_of}
 use Rattle.irqboard.specs.Board.{opening, history}
 use Rattle.irqboard.specs.Scripts.{script_text}
 use Rattle.irqboard.specs.Transcript.{transcript_text}
-use Rattle.irqboard.specs.Input.{HasRead}
+use Rattle.irqboard.specs.Input.{IsBeyond, HasRead}
 use Rattle.irqboard.specs.declared.outcome.Outcome.{Outcome}
 use Rattle.irqboard.specs.declared.outcome.Outcome.TheVariants.{Fine, Usage, BadInput, ReadFault, WriteFault, NoMemory, TooLong}
 
@@ -39,9 +39,9 @@ abbrev pub is_replay : List (List ℕ) → Bool
 is_replay (word ∷ []) = same_text word (codes "replay")
 is_replay _ = false
 
--- more than the limit was read exactly where that is the answer; where the words are none, nothing was read
+-- more than the limit was read, by at most 4,096 bytes, exactly where that is the answer; where the words are none, nothing was read
 abbrev pub ReadsRightly : Option (List ℕ) → Option (List ℕ) → Outcome → Type 0
-ReadsRightly old new (TooLong bytes) = (16777216 < bytes) × HasRead old new (λ n. n ≡ bytes)
+ReadsRightly old new (TooLong bytes) = IsBeyond bytes × HasRead old new (λ n. n ≡ bytes)
 ReadsRightly old new Usage = new ≡ old
 ReadsRightly old new _ = HasRead old new (λ n. n ≤ 16777216)
 
