@@ -1,5 +1,5 @@
 -- What the program answers, and when.
-use Rattle.std.specs.Prelude.{◌≡◌, ℕ, ◌<◌, ◌≤◌, Bool, false, List, [], ◌∷◌, ◌++◌, length, take, codes, Ok, Err, Some, None}
+use Rattle.std.specs.Prelude.{◌≡◌, ℕ, ◌≤◌, Bool, false, List, [], ◌∷◌, ◌++◌, length, take, codes, Ok, Err, Some, None}
 use Rattle.std.specs.declared.option.Option.{Option}
 use Rattle.std.specs.Fmt.{decimal}
 use Rattle.irq_base.specs.declared.call.Call.{Call}
@@ -33,6 +33,14 @@ message_of ReadFault = codes "read fault"
 message_of WriteFault = codes "write fault"
 message_of NoMemory = codes "no memory"
 message_of (TooLong bytes) = codes "input longer than 16777216 bytes"
+
+-- what is said on standard error: the line with its line feed, or nothing
+abbrev pub with_feed : List ℕ → List ℕ
+with_feed [] = []
+with_feed (b ∷ bs) = (b ∷ bs) ++ codes "\n"
+
+abbrev pub said_of : Outcome → List ℕ
+said_of outcome = with_feed (message_of outcome)
 
 -- the words are the one word `replay`
 abbrev pub is_replay : List (List ℕ) → Bool

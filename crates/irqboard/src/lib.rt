@@ -9,12 +9,15 @@ mod board;
 mod lines;
 mod numbers;
 mod outcome;
+mod program;
 mod reading;
 mod replaying;
 mod small_form;
 mod spelling;
 mod top;
+mod words;
 mod writing;
 
 pub use outcome::Outcome;
+pub use program::{Answered, Ended, asked};
 pub use top::{irqboard, replay};
