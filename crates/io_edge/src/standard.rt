@@ -3,7 +3,7 @@ ghost use Rattle.std.specs.Prelude.{◌≡◌, refl};
 ghost use Rattle.io_edge.specs.Faults.{StaysTold};
 
 use crate::edge::{Failed, Sink, Source};
-use std::io::{Read, Stdin, Stderr, Stdout, Write};
+use std::io::{Read, Stderr, Stdin, Stdout, Write};
 
 /// What reads. Whether it tells the bytes that it has left is a matter of its type, so no read changes it.
 pub trait Reader: Read + Drop {

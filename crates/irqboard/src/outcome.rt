@@ -13,7 +13,7 @@ const USAGE: &str =
     "usage: irqboard replay | run | check | gen START LINES CPUS | sum START LINES CPUS";
 
 /// The room for a line on standard error.
-pub const LINE: usize = 256;
+pub const LINE_ROOM: usize = 256;
 
 // The word of a cause.
 fn word_of(cause: LineCause) -> &'static str
@@ -68,10 +68,10 @@ impl Outcome {
     }
 
     // Puts the line for standard error, without its line feed, into the room.
-    fn put_line(&self, room: &mut ArrayString<LINE>)
+    fn put_line(&self, room: &mut ArrayString<LINE_ROOM>)
         requires { room.old.bytes ≡ [] }
         ensures line { room.new.bytes ≡ message_of self.now }
-        ensures short { length room.new.bytes < LINE }
+        ensures short { length room.new.bytes < LINE_ROOM }
     {
         match self {
             Outcome::Fine => {}
@@ -90,9 +90,9 @@ impl Outcome {
     }
 
     /// The line for standard error, without its line feed; nothing where there is none.
-    pub fn line(&self) -> ArrayString<LINE>
+    pub fn line(&self) -> ArrayString<LINE_ROOM>
         ensures line { result.bytes ≡ message_of self.now }
-        ensures short { length result.bytes < LINE }
+        ensures short { length result.bytes < LINE_ROOM }
     {
         let mut room = ArrayString::new();
         self.put_line(&mut room);
@@ -100,7 +100,7 @@ impl Outcome {
     }
 
     /// What is said on standard error: the line with its line feed, or nothing.
-    pub fn said(&self) -> ArrayString<LINE>
+    pub fn said(&self) -> ArrayString<LINE_ROOM>
         ensures { result.bytes ≡ said_of self.now }
     {
         let mut line = self.line();

@@ -18,8 +18,7 @@ use std::io;
 use std::marker::Model;
 use std::process::{ExitCode, Termination};
 
-/// What a run came to, before it is said. Only `asked` makes one.
-#[derive(Drop)]
+/// What a run came to, before it is said. Only `asked` makes one, and it cannot be let go: only `said` takes it.
 pub struct Answered {
     outcome: Outcome,
 }
@@ -32,8 +31,8 @@ impl Model for Answered {
     ghost view = { λ a. a.outcome };
 }
 
-/// A run whose line was said. Only `Answered::said` makes one, so a `main` that answers it ends with the outcome's status.
-#[derive(Drop)]
+/// A run whose line was said. Only `said` makes one, and it cannot be let go: a `main` that asked has to give it back, and ends with
+/// the outcome's status.
 pub struct Ended {
     outcome: Outcome,
 }
@@ -63,7 +62,11 @@ pub fn asked<S: Source, K: Sink, G: Gate>(
     ensures write_fault { result ≡ Outcome.WriteFault → Rose (K.faults sink.old) (K.faults sink.new) }
     ensures source_faults { result ≢ Outcome.ReadFault → S.faults source.new ≡ S.faults source.old }
     ensures sink_faults { result ≢ Outcome.WriteFault → K.faults sink.new ≡ K.faults sink.old }
-    ensures complete { IfOk texts (λ t. IsTrue (is_replay (words_in t)) → IsGood (S.left source.old) → ¬ Rose (S.faults source.old) (S.faults source.new) → ¬ Rose (K.faults sink.old) (K.faults sink.new) → IsDone result) }
+    ensures complete { IfOk texts (λ t. IsTrue (is_replay (words_in t))
+        → IsGood (S.left source.old)
+        → ¬ Rose (S.faults source.old) (S.faults source.new)
+        → ¬ Rose (K.faults sink.old) (K.faults sink.new)
+        → IsDone result) }
 {
     let texts = match texts {
         Ok(texts) => texts,
@@ -88,14 +91,14 @@ impl Answered {
     /// then written.
     pub fn said<E: Sink>(self, errors: &mut E) -> Ended
         ensures outcome { result ≡ self }
-        ensures line { ¬ Rose (E.faults errors.old) (E.faults errors.new) → Appends (E.holds errors.old) (E.holds errors.new) (said_of self) }
+        ensures line { ¬ Rose (E.faults errors.old) (E.faults errors.new)
+            → Appends (E.holds errors.old) (E.holds errors.new) (said_of self) }
         ensures front { AppendsFront (E.holds errors.old) (E.holds errors.new) (said_of self) }
     {
-        let line = self.outcome.said();
+        let Answered { outcome } = self;
+        let line = outcome.said();
         let _ = write_whole(errors, line.as_str().as_bytes());
-        Ended {
-            outcome: self.outcome,
-        }
+        Ended { outcome }
     }
 }
 
@@ -104,6 +107,7 @@ impl Termination for Ended {
     fn report<R: Eprint>(self, _rt: &R) -> ExitCode
         ensures { exit_status result ≡ status_of self }
     {
-        ExitCode::from(self.outcome.status())
+        let Ended { outcome } = self;
+        ExitCode::from(outcome.status())
     }
 }

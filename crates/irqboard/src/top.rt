@@ -24,7 +24,10 @@ pub fn replay<S: Source, K: Sink>(alloc: Global, source: &mut S, sink: &mut K) -
     ensures write_fault { result ≡ Outcome.WriteFault → Rose (K.faults sink.old) (K.faults sink.new) }
     ensures source_faults { result ≢ Outcome.ReadFault → S.faults source.new ≡ S.faults source.old }
     ensures sink_faults { result ≢ Outcome.WriteFault → K.faults sink.new ≡ K.faults sink.old }
-    ensures complete { IsGood (S.left source.old) → ¬ Rose (S.faults source.old) (S.faults source.new) → ¬ Rose (K.faults sink.old) (K.faults sink.new) → IsDone result }
+    ensures complete { IsGood (S.left source.old)
+        → ¬ Rose (S.faults source.old) (S.faults source.new)
+        → ¬ Rose (K.faults sink.old) (K.faults sink.new)
+        → IsDone result }
 {
     let input = match read_whole(alloc, source) {
         Ok(input) => input,
@@ -81,7 +84,11 @@ pub fn irqboard<S: Source, K: Sink, G: Gate>(
     ensures write_fault { result ≡ Outcome.WriteFault → Rose (K.faults sink.old) (K.faults sink.new) }
     ensures source_faults { result ≢ Outcome.ReadFault → S.faults source.new ≡ S.faults source.old }
     ensures sink_faults { result ≢ Outcome.WriteFault → K.faults sink.new ≡ K.faults sink.old }
-    ensures complete { IsTrue (is_replay words.now) → IsGood (S.left source.old) → ¬ Rose (S.faults source.old) (S.faults source.new) → ¬ Rose (K.faults sink.old) (K.faults sink.new) → IsDone result }
+    ensures complete { IsTrue (is_replay words.now)
+        → IsGood (S.left source.old)
+        → ¬ Rose (S.faults source.old) (S.faults source.new)
+        → ¬ Rose (K.faults sink.old) (K.faults sink.new)
+        → IsDone result }
 {
     if is_replay(words) {
         replay(alloc, source, sink)
