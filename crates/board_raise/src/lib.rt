@@ -9,7 +9,7 @@
 
 mod lacks;
 mod on_rig;
-mod one;
+mod board_rig;
 mod parts;
 mod rig;
 mod row;
@@ -24,7 +24,7 @@ ghost use Rattle.board_raise.specs.Steady.{SendsSteadily};
 pub use board_model::TriggerWord;
 pub use lacks::Lacks;
 pub use on_rig::send;
-pub use one::OneBoard;
+pub use board_rig::BoardRig;
 pub use parts::{IoPart, Parts, PicPart, RegistryPart};
 pub use rig::Rig;
 pub use row::LapicRow;

@@ -41,7 +41,7 @@ fn pin_bits(pin: Option<u8>) -> u64
 }
 
 /// Where the GSI of a word goes, and whether it is marked. A word that is none of a route gives no target and false.
-#[tactic(auto, using(crate::specs::WordLaws::word_rules))]
+#[tactic(auto, using(crate::proofs::WordLaws::word_rules))]
 pub fn decode(word: u64) -> (Targets, bool)
     ensures value { result ≡ targets_in word }
     ensures encoded { (t : Route) (m : Bool) → IsTrue (is_route t) → word ≡ word_of t m → result ≡ (t, m) }
@@ -126,7 +126,7 @@ fn is_route(targets: &Targets) -> bool
 }
 
 // Whether the address is one of messages.
-#[tactic(auto, using(crate::specs::WordLaws::good_rules))]
+#[tactic(auto, using(crate::proofs::WordLaws::good_rules))]
 fn is_good(address: u64, payload: u32) -> bool
     ensures { result ≡ is_good (record { address = address; payload = payload }) }
 {
