@@ -20,7 +20,7 @@ use Rattle.irqfd_set.specs.Rows.{has_trigger, of_trigger, has_resampler}
 use Rattle.ack_notifiers.specs.declared.watches.Watch.{Watch}
 use Rattle.ack_notifiers.specs.Rows.{has_watch}
 use Rattle.irq_bits.specs.Fields.{bits_of}
-use Rattle.route_table.specs.Words.{no_targets, is_route_of, word_of, targets_in}
+use Rattle.route_table.specs.Words.{no_targets, is_route_of, targets_word, targets_in}
 use Rattle.route_table.proofs.WordLaws.{targets_in-encoded}
 use Rattle.route_table.specs.Rows.{Table, pic_in, ioapic_in, msi_in, is_same, targets_by, table_of, targets_of, first_given}
 use Rattle.route_table.specs.Rows as table_rows
@@ -195,7 +195,7 @@ no_gsi_of_ioapic table n sound past = find_none _ (map.keys table) (λ gsi. no_i
 
 -- ---- the words, place by place
 
-gsi_word-is : (routing : Routing) (gsi : ℕ) → gsi < 4096 → gsi_word_at (words_of routing) gsi ≡ word_of (routing.targets gsi) (routing.marked gsi)
+gsi_word-is : (routing : Routing) (gsi : ℕ) → gsi < 4096 → gsi_word_at (words_of routing) gsi ≡ targets_word (routing.targets gsi) (routing.marked gsi)
 unfolding words_of
 gsi_word-is routing gsi below = word_at-within (words_of routing) 0 4096 gsi below ∙ ap (λ k. get_or (words_of routing) k 0) (place gsi) ∙ get_or-first 4096 _ _ gsi below
   where

@@ -9,7 +9,7 @@ use Rattle.irqfd_set.specs.declared.irqfds.Irqfd.{Irqfd}
 use Rattle.ack_notifiers.specs.declared.watches.Watch.{Watch}
 use Rattle.route_table.specs.Rows.{Table, refusal_of, table_of, targets_of}
 use Rattle.irq_bits.specs.Fields.{bits_of}
-use Rattle.route_table.specs.Words.{is_route, word_of, targets_in}
+use Rattle.route_table.specs.Words.{is_route, targets_word, targets_in}
 use Rattle.board_model.specs.declared.trigger.TriggerWord.{TriggerWord}
 use Rattle.board_model.specs.Registry.{RegistryPart}
 use Rattle.board_model.specs.Routing.{Routing, routing_of_registry}
@@ -47,7 +47,7 @@ each_below (suc n) f = each_below n f ++ f n ∷ []
 -- the words of a routing: those of the GSIs, of the triggers, of the 8259A pins and of the I/O APIC pins
 unfoldable pub words_of : Routing → List ℕ
 words_of routing =
-    each_below 4096 (λ gsi. word_of (routing.targets gsi) (routing.marked gsi))
+    each_below 4096 (λ gsi. targets_word (routing.targets gsi) (routing.marked gsi))
     ++ (each_below 256 (λ counter. trigger_word (routing.trigger counter))
     ++ (each_below 16 (λ pin. pin_word (routing.gsi_of (Pic pin))) ++ each_below 24 (λ pin. pin_word (routing.gsi_of (Ioapic pin)))))
 

@@ -88,7 +88,8 @@ raise_of io pin = if (entry_at io pin).masked then Masked else if stands io pin 
 
 -- the processors took a message of the pin: a level-triggered entry sets remote IRR
 abbrev pub pin_accepted : Ioapic → ℕ → Ioapic
-pin_accepted io pin = with_entry_at io pin (record (entry_at io pin) { remote_irr = (entry_at io pin).level || (entry_at io pin).remote_irr })
+pin_accepted io pin =
+    with_entry_at io pin (record (entry_at io pin) { remote_irr = (entry_at io pin).level || (entry_at io pin).remote_irr })
 
 -- an end of interrupt clears remote IRR
 abbrev pub acknowledged : Ioapic → ℕ → Ioapic

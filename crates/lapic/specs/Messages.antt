@@ -1,6 +1,6 @@
 -- How a local APIC takes a message, and the message that it sends itself (SDM volume 3, interrupt acceptance for fixed
 -- interrupts, error handling, interrupt command register).
-use Rattle.std.specs.Prelude.{ℕ, ◌+◌, ◌-◌, ◌/◌, ◌%◌, ◌^◌, ◌==◌, Bool, true, false, not, nat_lt, bit_or, if◌then◌else◌}
+use Rattle.std.specs.Prelude.{ℕ, ◌^◌, ◌==◌, Bool, true, false, not, nat_lt, bit_or, if◌then◌else◌}
 use Rattle.std.specs.FinSet as set
 use Rattle.irq_bits.specs.Fields.{bits_of}
 use Rattle.irq_bits.specs.Members.{Numbers, is_set}

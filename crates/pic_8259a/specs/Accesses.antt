@@ -146,7 +146,11 @@ plainly c value = record { after = c; value = value; pin = None }
 abbrev pub polled_by : Option ℕ → Chip → Read Chip
 polled_by None c = plainly (record c { poll_pending = false }) 0x00
 polled_by (Some t) c =
-    record { after = (level_acknowledged (record c { poll_pending = false }) t).after; value = 0x80 + t; pin = (level_acknowledged c t).pin }
+    record {
+      after = (level_acknowledged (record c { poll_pending = false }) t).after;
+      value = 0x80 + t;
+      pin = (level_acknowledged c t).pin;
+    }
 
 abbrev pub polled : Chip → Place → Read Chip
 polled c place = polled_by (top_of c place) c

@@ -142,7 +142,9 @@ abbrev pub cycle_by : Option ℕ → Pair → Cycle
 cycle_by None p = record { after = p; vector = p.master.base + 7; pins = acked_pins None None }
 cycle_by (Some t) p =
     if nat_eq t 2
-    then slave_cycle (top_of p.slave Slave) (record p { master = (level_acknowledged p.master t).after }) (level_acknowledged p.master t).pin
+    then slave_cycle (top_of p.slave Slave)
+    (record p { master = (level_acknowledged p.master t).after })
+    (level_acknowledged p.master t).pin
     else record {
       after = record p { master = (level_acknowledged p.master t).after };
       vector = p.master.base + t;

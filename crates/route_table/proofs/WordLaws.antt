@@ -7,7 +7,7 @@ use borrow.Author.Tests.{ltb-true}
 use Rattle.irq_base.specs.declared.message.MsiWord.{MsiWord}
 use Rattle.irq_base.specs.declared.message.Targets.{Targets}
 use Rattle.irq_bits.specs.Fields.{bits_of}
-use Rattle.route_table.specs.Words.{no_targets, is_route, is_route_of, is_good, pin_named, bits_of_targets, target_bits, word_of, pins_in, message_in, of_kind, named_by, is_marked, is_word_of, given_where, targets_in}
+use Rattle.route_table.specs.Words.{no_targets, is_route, is_route_of, is_good, pin_named, bits_of_targets, target_bits, targets_word, pins_in, message_in, of_kind, named_by, is_marked, is_word_of, given_where, targets_in}
 
 -- ---- the fields of a word
 
@@ -109,10 +109,10 @@ small_bits None None (Some m) route = let low : m.payload < 2 ^ 32 = good_payloa
 small_bits (Some n) ioapic (Some m) route = cc
 small_bits None (Some k) (Some m) route = cc
 
-named_back_of : (t : Targets) (m : Bool) → is_route t ≡ true → named_by (word_of t m) ≡ t
+named_back_of : (t : Targets) (m : Bool) → is_route t ≡ true → named_by (targets_word t m) ≡ t
 named_back_of t m route = ap (λ mark. named_by (mark + target_bits t)) (mark_is m) ∙ named_back t.pic t.ioapic t.msi (mark_number m) route
 
-marked_back_of : (t : Targets) (m : Bool) → is_route t ≡ true → is_marked (word_of t m) ≡ m
+marked_back_of : (t : Targets) (m : Bool) → is_route t ≡ true → is_marked (targets_word t m) ≡ m
 marked_back_of t m route =
     ap (λ mark. is_marked (mark + target_bits t)) (mark_is m)
     ∙ ap (λ x. nat_eq x 1) (mark_bit (mark_number m) (target_bits t) (mark_small m) (small_bits t.pic t.ioapic t.msi route))
@@ -128,19 +128,19 @@ targets_in-route word = routed (is_word_of word (named_by word) (is_marked word)
     routed true t m route = route refl
     routed false t m route = refl
 
-pub targets_in-encoded : (word : ℕ) (t : Targets) (m : Bool) → IsTrue (is_route t) → word ≡ word_of t m → targets_in word ≡ (t, m)
+pub targets_in-encoded : (word : ℕ) (t : Targets) (m : Bool) → IsTrue (is_route t) → word ≡ targets_word t m → targets_in word ≡ (t, m)
 unfolding targets_in
 targets_in-encoded word t m route e =
     let named : named_by word ≡ t = ap named_by e ∙ named_back_of t m route in
     let mark : is_marked word ≡ m = ap is_marked e ∙ marked_back_of t m route in
-    let same : nat_eq (word_of t m) word ≡ true = (unsigned_Decides (word_of t m) word).1 (sym e) in
+    let same : nat_eq (targets_word t m) word ≡ true = (unsigned_Decides (targets_word t m) word).1 (sym e) in
     (λ i. given_where (is_word_of word (named i) (mark i)) (named i) (mark i))
     ∙ (λ i. given_where (route i && same i) t m)
 
-pub targets_in-other : (word : ℕ) → ((t : Targets) (m : Bool) → IsTrue (is_route t) → word ≢ word_of t m) → targets_in word ≡ (no_targets, false)
+pub targets_in-other : (word : ℕ) → ((t : Targets) (m : Bool) → IsTrue (is_route t) → word ≢ targets_word t m) → targets_in word ≡ (no_targets, false)
 unfolding targets_in
 targets_in-other word none = other (is_word_of word (named_by word) (is_marked word)) (named_by word) (is_marked word)
-    (λ e. none (named_by word) (is_marked word) (first_so _ _ e) (sym ((unsigned_Decides (word_of (named_by word) (is_marked word)) word).0 (second_so _ _ e))))
+    (λ e. none (named_by word) (is_marked word) (first_so _ _ e) (sym ((unsigned_Decides (targets_word (named_by word) (is_marked word)) word).0 (second_so _ _ e))))
   where
     other : (b : Bool) (t : Targets) (m : Bool) → (b ≡ true → ⊥) → given_where b t m ≡ (no_targets, false)
     other true t m never = absurd (never refl)

@@ -49,8 +49,8 @@ abbrev pub target_bits : Targets → ℕ
 target_bits t = bits_of_targets t.pic t.ioapic t.msi
 
 -- the word of targets; bit 63 is the mark
-abbrev pub word_of : Targets → Bool → ℕ
-word_of t marked = (if marked then 2 ^ 63 else 0) + target_bits t
+abbrev pub targets_word : Targets → Bool → ℕ
+targets_word t marked = (if marked then 2 ^ 63 else 0) + target_bits t
 
 -- ---- the targets of a word
 
@@ -79,7 +79,7 @@ is_marked word = nat_eq (bits_of word 63 63) 1
 
 -- whether the word is that of a route
 abbrev pub is_word_of : ℕ → Targets → Bool → Bool
-is_word_of word t m = is_route t && nat_eq (word_of t m) word
+is_word_of word t m = is_route t && nat_eq (targets_word t m) word
 
 -- the targets and the mark where the test holds, else no target and false
 abbrev pub given_where : Bool → Targets → Bool → Targets × Bool
