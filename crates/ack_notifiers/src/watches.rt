@@ -72,7 +72,7 @@ impl Watches {
         if has_row(self.rows.as_slice(), counter, gsi) {
             return Err(Refusal::Exists);
         }
-        if self.rows.len() == ROOM {
+        if self.rows.len() >= ROOM {
             return Err(Refusal::Full);
         }
         match self.rows.push(Watch { counter, gsi }) {
@@ -106,6 +106,13 @@ impl Watches {
         ensures { result ≡ has_counter self.now counter }
     {
         self.rows.iter().any(|row| row.counter == counter)
+    }
+
+    /// The rows, in order of registration.
+    pub fn rows(&self) -> &[Watch]
+        ensures { result.now ≡ self.now }
+    {
+        self.rows.as_slice()
     }
 
     /// Signals the counter of each watch of that GSI, in order of registration, with its event. There is room for these

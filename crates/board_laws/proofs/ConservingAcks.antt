@@ -76,10 +76,12 @@ abbrev pub Singly : ℕ → (ℕ → Bool) → Bool → List Event → Type 0
 Singly tick may due [] = Unit {0}
 Singly tick may due (event ∷ events) = (admits tick may due event ≡ true) × (is_rang event ≡ false → Singly tick may (due_after tick due event) events)
 
--- an outcome takes so many ticks off besides those of the acknowledges that it tells, and tells what may come
+-- an outcome takes so many ticks off besides those of the acknowledges that it tells, changes no tick state without reinjection,
+-- and tells what may come
 pub record Conserves {A : Type 0} (tick : ℕ) (rings : Bool) (may : ℕ → Bool) (taken : ℕ) (b : Board) (o : Outcome A) : Type 0 where
   pub reinjects : o.board.tick.reinjects ≡ b.tick.reinjects
   pub pending : b.tick.reinjects ≡ true → o.board.tick.pending ≡ b.tick.pending - (taken + acks_in tick o.log.events)
+  pub stays : b.tick.reinjects ≡ false → o.board.tick ≡ b.tick
   pub allowed : Allowed rings o.log.events
   pub singly : Singly tick may false o.log.events
 
@@ -259,6 +261,7 @@ module _ (tick : ℕ) (rings : Bool) (may : ℕ → Bool) where
       record {
         reinjects = ap (λ (s : TickState). s.reinjects) o.0;
         pending = λ _. none ((run m b ws).board.tick.pending) b.tick.pending (acks_in tick (run m b ws).log.events) (ap (λ (s : TickState). s.pending) o.0) told.0;
+        stays = λ _. o.0;
         allowed = told.1;
         singly = quiet_singly tick may false (run m b ws).log.events o.1;
       }
@@ -275,6 +278,7 @@ module _ (tick : ℕ) (rings : Bool) (may : ℕ → Bool) where
       let both : Conserves tick rings may (i + j) b (then_run o f) = record {
         reinjects = later.reinjects ∙ first.reinjects;
         pending = λ on. sum r.board.tick.pending o.board.tick.pending b.tick.pending (acks_in tick o.log.events) (acks_in tick r.log.events) (acks_in tick (o.log.events ++ r.log.events)) (later.pending (first.reinjects ∙ on)) (first.pending on) (acks_append tick o.log.events r.log.events);
+        stays = λ off. later.stays (first.reinjects ∙ off) ∙ first.stays off;
         allowed = allowed_append tick rings o.log.events r.log.events first.allowed later.allowed;
         singly = singly_append tick may false o.log.events r.log.events first.singly later.singly;
       } in
@@ -287,18 +291,19 @@ module _ (tick : ℕ) (rings : Bool) (may : ℕ → Bool) where
   pub bind_conserving : {A B : Type 0} (taken : ℕ) (f : A → Plan B) (m : Plan A) → Conserving tick rings may 0 m → ((a : A) → Conserving tick rings may taken (f a)) → Conserving tick rings may taken (m >>= f)
   bind_conserving {A} {B} taken f m first next = λ b ws.
       let r = then_conserves 0 taken f m b ws (first b ws) next in
-      record { reinjects = r.reinjects; pending = λ on. same (run (m >>= f) b ws).board.tick.pending b.tick.pending (acks_in tick (run (m >>= f) b ws).log.events) (r.pending on); allowed = r.allowed; singly = r.singly }
+      record { reinjects = r.reinjects; pending = λ on. same (run (m >>= f) b ws).board.tick.pending b.tick.pending (acks_in tick (run (m >>= f) b ws).log.events) (r.pending on); stays = r.stays; allowed = r.allowed; singly = r.singly }
     where
       same : (left was acks : ℕ) → left ≡ was - (0 + taken + acks) → left ≡ was - (taken + acks)
       same left was acks e = omega (arith, e)
 
   -- the tick state is written, with so many ticks taken off
-  pub put_conserves : {A : Type 0} (taken : ℕ) (m : Plan A) (b : Board) (v : TickState) (ws : Wishes) → v.reinjects ≡ b.tick.reinjects → (b.tick.reinjects ≡ true → v.pending ≡ b.tick.pending - taken) → Conserving tick rings may 0 m → Conserves tick rings may taken b (run (put parts.Tick v m) b ws)
-  put_conserves taken m b v ws same less later =
+  pub put_conserves : {A : Type 0} (taken : ℕ) (m : Plan A) (b : Board) (v : TickState) (ws : Wishes) → v.reinjects ≡ b.tick.reinjects → (b.tick.reinjects ≡ false → v ≡ b.tick) → (b.tick.reinjects ≡ true → v.pending ≡ b.tick.pending - taken) → Conserving tick rings may 0 m → Conserves tick rings may taken b (run (put parts.Tick v m) b ws)
+  put_conserves taken m b v ws same still less later =
       let r = later (with_part b parts.Tick v) ws in
       record {
         reinjects = r.reinjects ∙ same;
         pending = λ on. sum (run m (with_part b parts.Tick v) ws).board.tick.pending v.pending b.tick.pending (acks_in tick (run m (with_part b parts.Tick v) ws).log.events) (r.pending (same ∙ on)) (less on);
+        stays = λ off. r.stays (same ∙ off) ∙ still off;
         allowed = r.allowed;
         singly = r.singly;
       }
@@ -315,6 +320,13 @@ tick_acked_same s = elim s.reinjects as (λ t. (if t then record s { pending = s
 tick_acked_less : (s : TickState) → s.reinjects ≡ true → (tick_acked s).pending ≡ s.pending - 1
 tick_acked_less s on = ap (λ t. (if t then record s { pending = s.pending - 1; free = true } else s).pending) on
 
+-- without reinjection they leave the tick state
+pub tick_injected_stays : (s : TickState) (status : Status) → s.reinjects ≡ false → tick_injected s status ≡ s
+tick_injected_stays s status off = ap (λ t. if t then record s { free = is_ignored status } else s) off
+
+tick_acked_stays : (s : TickState) → s.reinjects ≡ false → tick_acked s ≡ s
+tick_acked_stays s off = ap (λ t. if t then record s { pending = s.pending - 1; free = true } else s) off
+
 module _ (routing : Routing) (shape : Shape) (rings : Bool) where
   -- ---- a tick is injected
 
@@ -323,7 +335,7 @@ module _ (routing : Routing) (shape : Shape) (rings : Bool) where
       bind_conserving shape.tick rings may 0 (λ status. change parts.Tick (λ tick. tick_injected tick status)) (inject shape.cpus (routing.targets shape.tick) TickSource about)
       (quiet_conserving shape.tick rings may (inject shape.cpus (routing.targets shape.tick) TickSource about) (inject_quiet may shape.cpus (routing.targets shape.tick) TickSource about there))
       (λ status b ws. let same = tick_injected_same b.tick status in
-      put_conserves shape.tick rings may 0 (done tt) b (tick_injected b.tick status) ws same.0 (λ _. none same.1) (quiet_conserving shape.tick rings may (done tt) tt))
+      put_conserves shape.tick rings may 0 (done tt) b (tick_injected b.tick status) ws same.0 (tick_injected_stays b.tick status) (λ _. none same.1) (quiet_conserving shape.tick rings may (done tt) tt))
     where
       none : {a b : ℕ} → a ≡ b → a ≡ b - 0
       none e = omega (arith, e)
@@ -338,7 +350,7 @@ module _ (routing : Routing) (shape : Shape) (rings : Bool) where
   end_tick_conserving : (pin : Pin) (gsi : Option ℕ) → Conserving shape.tick rings (λ _. true) (is_ack_of shape.tick (Acked pin gsi)) (end_tick routing shape gsi)
   end_tick_conserving pin None = quiet_conserving shape.tick rings (λ _. true) (done tt) tt
   end_tick_conserving pin (Some gsi) = elim (nat_eq gsi shape.tick) as (λ t. Conserving shape.tick rings (λ _. true) (if t then 1 else 0) (if t then acknowledge_tick routing shape else done tt)) [
-    | true ↦ λ b ws. put_conserves shape.tick rings (λ _. true) 1 (inject_next routing shape (ack_injects b.tick)) b (tick_acked b.tick) ws (tick_acked_same b.tick) (tick_acked_less b.tick)
+    | true ↦ λ b ws. put_conserves shape.tick rings (λ _. true) 1 (inject_next routing shape (ack_injects b.tick)) b (tick_acked b.tick) ws (tick_acked_same b.tick) (tick_acked_stays b.tick) (tick_acked_less b.tick)
         (next_conserving (λ _. true) (ack_injects b.tick) refl)
     | false ↦ quiet_conserving shape.tick rings (λ _. true) (done tt) tt
   ]
@@ -392,7 +404,7 @@ module _ (routing : Routing) (shape : Shape) (rings : Bool) where
       let taken = is_ack_of shape.tick (Acked pin gsi) in
       let r = bind_conserving shape.tick rings after taken f m (quiet_conserving shape.tick rings after m (tell_quiet after routing gsi))
       (λ _. bind_conserving shape.tick rings after taken (λ _. end_tick routing shape gsi) (end_level shape.cpus pin) (quiet_conserving shape.tick rings after (end_level shape.cpus pin) (level_quiet after shape.cpus pin)) (λ _. end_tick_conserving pin gsi)) b ws in
-      record { reinjects = r.reinjects; pending = λ on. same (run (m >>= f) b ws).board.tick.pending b.tick.pending taken (acks_in shape.tick (run (m >>= f) b ws).log.events) (r.pending on); allowed = (refl, r.allowed); singly = (refl, λ _. acknowledged_singly may pin gsi b ws) }
+      record { reinjects = r.reinjects; pending = λ on. same (run (m >>= f) b ws).board.tick.pending b.tick.pending taken (acks_in shape.tick (run (m >>= f) b ws).log.events) (r.pending on); stays = r.stays; allowed = (refl, r.allowed); singly = (refl, λ _. acknowledged_singly may pin gsi b ws) }
     where
       same : (left was taken acks : ℕ) → left ≡ was - (taken + acks) → left ≡ was - (0 + (taken + acks))
       same left was taken acks e = omega (arith, e)

@@ -152,6 +152,7 @@ module _ (routing : Routing) (shape : Shape) (rings : Bool) (may : ℕ → Bool)
       record {
         reinjects = r.reinjects ∙ ap (λ (s : TickState). s.reinjects) same;
         pending = λ on. r.pending (ap (λ (s : TickState). s.reinjects) same ∙ on) ∙ ap (λ (s : TickState). s.pending - (0 + acks_in shape.tick (run m (with_part b p v) ws).log.events)) same;
+        stays = λ off. r.stays (ap (λ (s : TickState). s.reinjects) same ∙ off) ∙ same;
         allowed = r.allowed;
         singly = r.singly;
       }
@@ -252,7 +253,7 @@ module _ (routing : Routing) (shape : Shape) (rings : Bool) (may : ℕ → Bool)
       of_rung None = answers Exit
       of_rung (Some counter) = λ b ws.
           let r = quiet_conserving shape.tick rings (λ _. true) (ring_counter routing shape counter (routing.trigger counter) >> reply Done) (rung_quiet (λ _. true) routing shape counter (routing.trigger counter) (λ _. refl)) b ws in
-          record { reinjects = r.reinjects; pending = λ on. none_more (run (ring_counter routing shape counter (routing.trigger counter) >> reply Done) b ws).board.tick.pending b.tick.pending (acks_in shape.tick (run (ring_counter routing shape counter (routing.trigger counter) >> reply Done) b ws).log.events) (r.pending on); allowed = (h, r.allowed); singly = (refl, λ quiet. let never : true ≡ false = quiet in cc) }
+          record { reinjects = r.reinjects; pending = λ on. none_more (run (ring_counter routing shape counter (routing.trigger counter) >> reply Done) b ws).board.tick.pending b.tick.pending (acks_in shape.tick (run (ring_counter routing shape counter (routing.trigger counter) >> reply Done) b ws).log.events) (r.pending on); stays = r.stays; allowed = (h, r.allowed); singly = (refl, λ quiet. let never : true ≡ false = quiet in cc) }
 
   port_out_keeps : (port len value : ℕ) → (is_port port ≡ true) ⊎ (rings ≡ true) → Keeps (port_out routing shape port len value)
   port_out_keeps port len value h = elim (is_port port) as (λ t. (t ≡ true) ⊎ (rings ≡ true) → Keeps (if t then pair_write routing shape port len value else ring routing shape spaces.Port port len value)) [

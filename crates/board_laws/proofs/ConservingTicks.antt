@@ -12,7 +12,7 @@ use Rattle.irq_base.specs.declared.event.Event.{Event}
 use Rattle.irq_base.specs.declared.event.Event.TheVariants.{Acked, Resampled, Watched, Rang, Injected, Resent, Ipi}
 use Rattle.irq_base.specs.declared.lists.Entry.{Entry}
 use Rattle.irq_base.specs.declared.message.Source.TheVariants.{Tick as TickSource}
-use Rattle.irq_base.specs.declared.reply.Reply.TheVariants.{Held}
+use Rattle.irq_base.specs.declared.reply.Reply.TheVariants.{Held, Signal}
 use Rattle.irq_base.specs.declared.shape.Part.{Part}
 use Rattle.irq_base.specs.declared.shape.Part.TheVariants as parts
 use Rattle.irq_base.specs.declared.shape.Shape.{Shape}
@@ -28,13 +28,14 @@ use Rattle.board_raise.specs.Signal.{inject}
 use Rattle.board_step.specs.Ticks.{tick_or_hold}
 use Rattle.board_step.specs.Step.{plan_on, outcome_of, with_counts, would_publish, Step}
 use Rattle.board_step.specs.History.{opening, next_board, Leads, board_after}
-use Rattle.board_laws.specs.Ticks.{is_tick, ticks_in, acks_in, ticks_taken_by, ticks_taken, is_tick_mode, sets_mode, StartsReinjection, TicksAreConserved, HoldsBack, TicksInjectFree, acks_or_injects, FollowsAcknowledge, OtherInjectionsFollowAcknowledges}
-use Rattle.board_step.proofs.Following.{next_is, board_after_is_reached}
+use Rattle.board_laws.specs.Points.{board_at, board_left, OfLegalHistories}
+use Rattle.board_laws.specs.Ticks.{is_tick, ticks_in, acks_in, ticks_taken_by, ticks_taken, is_tick_mode, sets_mode, StartsReinjection, TicksAreConserved, HoldsBack, BusyTicksAreHeldBack, IsFreeUnlessReinjects, StateIsFreeUnlessReinjects, FallsFree, TicksInjectFree, acks_or_injects, FollowsAcknowledge, OtherInjectionsFollowAcknowledges}
+use Rattle.board_step.proofs.Following.{next_is}
 use Rattle.board_step.proofs.SoundRows.{or_neither}
 use Rattle.board_laws.proofs.DeassignedRows.{last_answer}
-use Rattle.board_laws.proofs.DeassignedSignals.{leads_both}
+use Rattle.board_laws.proofs.Points.{split, after_both, step_at, holds_at, at_points, of_boards}
 use Rattle.board_laws.proofs.ConservingQuiet.{inject_quiet}
-use Rattle.board_laws.proofs.ConservingAcks.{is_rang, due_after, Singly, acks_append, quiet_acks}
+use Rattle.board_laws.proofs.ConservingAcks.{Conserves, is_rang, due_after, Singly, acks_append, quiet_acks}
 use Rattle.board_laws.proofs.ConservingCalls.{Lets, call_keeps, tick_keeps}
 
 -- ---- a tick that falls
@@ -125,11 +126,6 @@ step_balances b e c s on stays =
 
 -- ---- a history
 
--- two parts of a history
-leads_on : (b : Board) (xs ys : List Entry) (mid c : Board) → Leads b xs mid → Leads mid ys c → Leads b (xs ++ ys) c
-leads_on b [] ys mid c same later = subst (λ (d : Board). Leads d ys c) (sym same) later
-leads_on b (x ∷ xs) ys mid c (next, step, leads) later = (next, step, leads_on next xs ys mid c leads later)
-
 balance : (b : Board) (es : List Entry) (c : Board) → b.tick.reinjects ≡ true → Leads b es c → list_any sets_mode es ≡ false → b.tick.pending + ticks_in es ≡ c.tick.pending + ticks_taken b es
 balance b [] c on same stays = ap (λ (d : Board). d.tick.pending + 0) same
 balance b (e ∷ es) c on (next, step, leads) stays =
@@ -158,22 +154,17 @@ mode_set b e c reinject s is =
 -- reinjection starts on the board after such entries
 started : (shape : Shape) (early : List Entry) (b : Board) → Leads (opening shape) early b → StartsReinjection early → b.tick ≡ in_mode true
 started shape early b leads (inl none) = ap (λ (d : Board). d.tick) (sym (subst (λ (es : List Entry). Leads (opening shape) es b) none leads))
-started shape early b leads (inr turned) = of_end (leads_both (opening shape) turned.before (turned.last ∷ []) b (subst (λ (es : List Entry). Leads (opening shape) es b) turned.ends leads))
+started shape early b leads (inr turned) = of_end (split (opening shape) turned.before (turned.last ∷ []) b (subst (λ (es : List Entry). Leads (opening shape) es b) turned.ends leads)).1
   where
-    of_end : ((mid : Board) × Leads (opening shape) turned.before mid × Leads mid (turned.last ∷ []) b) → b.tick ≡ in_mode true
-    of_end (mid, first, (next, step, same)) = ap (λ (d : Board). d.tick) (sym same) ∙ mode_set mid turned.last next true step turned.call
+    of_end : Leads (board_after (opening shape) turned.before) (turned.last ∷ []) b → b.tick ≡ in_mode true
+    of_end (next, step, same) = ap (λ (d : Board). d.tick) (sym same) ∙ mode_set (board_after (opening shape) turned.before) turned.last next true step turned.call
 
-pub ticks_are_conserved : TicksAreConserved
-ticks_are_conserved shape early es more last leads starts stays = of_start (leads_both (opening shape) early (es ++ more) last leads)
-  where
-    of_end : (b c : Board) → Leads (opening shape) early b → Leads b es c → ticks_in es ≡ (board_after (opening shape) (early ++ es)).tick.pending + ticks_taken (board_after (opening shape) early) es
-    of_end b c first later =
-        let from : board_after (opening shape) early ≡ b = board_after_is_reached (opening shape) early b first in
-        let to : board_after (opening shape) (early ++ es) ≡ c = board_after_is_reached (opening shape) (early ++ es) c (leads_on (opening shape) early es b c first later) in
-        subst (λ (x : Board × Board). ticks_in es ≡ x.1.tick.pending + ticks_taken x.0 es) (λ i. (sym from i, sym to i)) (conserved_from b es c (started shape early b first starts) later stays)
-
-    of_start : ((mid : Board) × Leads (opening shape) early mid × Leads mid (es ++ more) last) → ticks_in es ≡ (board_after (opening shape) (early ++ es)).tick.pending + ticks_taken (board_after (opening shape) early) es
-    of_start (b, first, rest) = let both = leads_both b es more last rest in of_end b both.0 first both.1
+pub ticks_are_conserved : OfLegalHistories TicksAreConserved
+ticks_are_conserved shape history (last, leads) early es stretch =
+    let first = split (opening shape) early (es ++ stretch.more) last (subst (λ (l : List Entry). Leads (opening shape) l last) stretch.parts leads) in
+    let start = board_after (opening shape) early in
+    conserved_from start es (board_after start es) (started shape early start first.0 stretch.starts) (split start es stretch.more last first.1).0 stretch.stays
+    ∙ ap (λ (c : Board). c.tick.pending + ticks_taken start es) (sym (after_both (opening shape) early es))
 
 -- ---- ticks are injected where the state is free
 
@@ -214,8 +205,62 @@ held_back b e c s falls on never =
     left : c ≡ with_counts (would_publish b e.call) during
     left = sym s.leads ∙ ap (λ (o : Outcome (Unit {0})). with_counts (would_publish b e.call) o.board) is
 
-pub ticks_inject_free : TicksInjectFree
-ticks_inject_free b e c s falls on busy = held_back b e c s falls on (ap (λ t. not t || b.tick.free) on ∙ busy)
+pub busy_ticks_are_held_back : BusyTicksAreHeldBack
+busy_ticks_are_held_back b e c s falls on busy = held_back b e c s falls on (ap (λ t. not t || b.tick.free) on ∙ busy)
+
+-- ---- without reinjection the state is free
+
+-- a tick state that is free unless it reinjects
+abbrev IsOpen : TickState → Type 0
+IsOpen s = s.reinjects ≡ false → s.free ≡ true
+
+-- a plan that changes no tick state without reinjection keeps it open
+open_stays : {A : Type 0} {tick taken : ℕ} {rings : Bool} {may : ℕ → Bool} {b : Board} {o : Outcome A} → Conserves tick rings may taken b o → IsOpen b.tick → IsOpen o.board.tick
+open_stays r before off = let was = sym r.reinjects ∙ off in ap (λ (s : TickState). s.free) (r.stays was) ∙ before was
+
+ticked_open : (s : TickState) → IsOpen s → IsOpen (ticked s)
+ticked_open s = elim s.reinjects as (λ t. IsOpen s → IsOpen (if t then record s { pending = s.pending + 1 } else s)) [ true ↦ λ before. before | false ↦ λ before. before ]
+
+call_open : (b : Board) (caller : Caller) (ws : Wishes) (call : Call) → IsOpen b.tick → IsOpen (run (plan_on b caller call) b ws).board.tick
+call_open b caller ws call before = by_call call
+  where
+    routing : Routing
+    routing = routing_of_registry b.registry b.shape.tick
+
+    by_call : (call : Call) → IsOpen (run (plan_on b caller call) b ws).board.tick
+    by_call calls.Tick =
+        open_stays (tick_keeps routing b.shape true (λ _. true) (ticked b.tick) (tick_injects b.tick) (with_part b parts.Tick (ticked b.tick)) ws) (ticked_open b.tick before)
+    by_call (calls.TickMode reinject) = λ _. refl
+    by_call call = open_stays (call_keeps routing b.shape true (λ _. true) caller call (lets_all call refl refl) b ws) before
+
+step_open : (b : Board) (e : Entry) (c : Board) → Step b e c → IsFreeUnlessReinjects b → IsFreeUnlessReinjects c
+step_open b e c s before =
+    subst IsFreeUnlessReinjects s.leads (subst IsOpen (sym (counted_tick (would_publish b e.call) (outcome_of b e s.wishes).board)) (call_open b e.caller s.wishes e.call before))
+
+opening_open : (shape : Shape) → IsFreeUnlessReinjects (opening shape)
+opening_open shape off = refl
+
+pub state_is_free_unless_reinjects : OfLegalHistories StateIsFreeUnlessReinjects
+state_is_free_unless_reinjects = of_boards IsFreeUnlessReinjects step_open opening_open
+
+-- a tick is injected where the state is free, in either mode
+falls_free : (b : Board) (e : Entry) (c : Board) → Step b e c → IsFreeUnlessReinjects b → FallsFree b e c
+falls_free b e c s before = record { injected = λ status falls replied. by_state falls status replied b.tick.free refl; held = held }
+  where
+    held : e.call ≡ calls.Tick → b.tick.free ≡ false → HoldsBack b e c
+    held falls busy = of_mode b.tick.reinjects refl
+      where
+        of_mode : (t : Bool) → b.tick.reinjects ≡ t → HoldsBack b e c
+        of_mode true on = busy_ticks_are_held_back b e c s falls on busy
+        of_mode false off = absurd (true≢false (sym (before off) ∙ busy))
+
+    by_state : e.call ≡ calls.Tick → (status : Status) → e.reply ≡ Signal status → (t : Bool) → b.tick.free ≡ t → t ≡ true
+    by_state falls status replied true is = refl
+    by_state falls status replied false busy = let never : Signal status ≡ Held (b.tick.pending + 1) = sym replied ∙ (held falls busy).reply in cc
+
+pub ticks_inject_free : OfLegalHistories TicksInjectFree
+ticks_inject_free = at_points (λ shape p. FallsFree (board_at shape p) p.entry (board_left shape p))
+    (λ shape p legal. falls_free (board_at shape p) p.entry (board_left shape p) (step_at shape p legal) (holds_at shape p legal IsFreeUnlessReinjects step_open (opening_open shape)))
 
 -- ---- other injections follow acknowledges
 
@@ -285,9 +330,9 @@ module _ (tick : ℕ) where
       (later.0, comes_later due x before later.1)
 
 pub other_injections_follow_acknowledges : OtherInjectionsFollowAcknowledges
-other_injections_follow_acknowledges b e c s rings makes before after gsi status told =
-    let found = comes b.shape.tick false before after gsi status (subst (λ (events : List Event). RingsNothing events) told rings)
-    (subst (λ (events : List Event). Singly b.shape.tick (λ _. false) false events) (s.told ∙ told) (singly b e.caller s.wishes e.call makes)) in
+other_injections_follow_acknowledges b e c s none before gsi is =
+    let found = comes b.shape.tick false before is.after gsi is.status (subst (λ (events : List Event). RingsNothing events) is.told none.rings)
+    (subst (λ (events : List Event). Singly b.shape.tick (λ _. false) false events) (s.told ∙ is.told) (singly b e.caller s.wishes e.call none.makes)) in
     elim found.1 [
       | inl early ↦ absurd (true≢false (sym early.0))
       | inr follows ↦ (found.0, subst (λ (g : ℕ). FollowsAcknowledge g before) (sym found.0) follows)

@@ -34,7 +34,7 @@ use Rattle.board_step.specs.Refusals.{range_reasons, is_trigger, is_signalled, r
 use Rattle.board_step.specs.Registrations.{unless_refused, source_of, inject_count, assigned, was_last_resampler, release, deassigned}
 use Rattle.board_step.specs.Calls.{number_of, io_row, plan_in_range}
 use Rattle.board_step.specs.Step.{plan_on, outcome_of, with_counts, would_publish, Step}
-use Rattle.board_step.specs.History.{opening, Leads}
+use Rattle.board_step.specs.History.{opening}
 use Rattle.board_laws.specs.Deassigned.{EndsTrigger, MakesTrigger}
 use Rattle.board_step.proofs.CallManner.{replies_in, writes_in, refuses_in, ends, call_keeps, or_true}
 use Rattle.board_laws.proofs.ConservingAcks.{or_right}
@@ -207,16 +207,12 @@ counted_rows false b = refl
 rows_left : (b : Board) (e : Entry) (c : Board) (s : Step b e c) → (outcome_of b e s.wishes).board.registry.irqfds ≡ c.registry.irqfds
 rows_left b e c s = sym (counted_rows (would_publish b e.call) (outcome_of b e s.wishes).board) ∙ ap (λ (d : Board). d.registry.irqfds) s.leads
 
-step_apart : (b : Board) (e : Entry) (c : Board) → Step b e c → AreApart b.registry.irqfds → AreApart c.registry.irqfds
+pub step_apart : (b : Board) (e : Entry) (c : Board) → Step b e c → AreApart b.registry.irqfds → AreApart c.registry.irqfds
 step_apart b e c s apart = subst AreApart (rows_left b e c s) (elim (rows_after b e.caller s.wishes e.call) [
   | inl stay ↦ subst AreApart (sym stay) apart
   | inr (inl makes) ↦ subst AreApart (sym makes.rows) (apart_with b.registry.irqfds (record { trigger = makes.trigger; gsi = makes.gsi; resample = makes.resample }) apart makes.first)
   | inr (inr goes) ↦ subst AreApart (sym goes.rows) (apart_fewer (λ row. not (is_named goes.trigger goes.gsi row)) b.registry.irqfds apart)
 ])
-
-pub leads_apart : (b : Board) (es : List Entry) (c : Board) → Leads b es c → AreApart b.registry.irqfds → AreApart c.registry.irqfds
-leads_apart b [] c same apart = subst (λ (d : Board). AreApart d.registry.irqfds) same apart
-leads_apart b (e ∷ es) c (next, step, leads) apart = leads_apart next es c leads (step_apart b e next step apart)
 
 pub opening_apart : (shape : Shape) → AreApart (opening shape).registry.irqfds
 opening_apart shape = tt

@@ -15,6 +15,7 @@ use Rattle.irq_base.specs.declared.lists.Entry.{Entry}
 use Rattle.irq_base.specs.declared.refusal.Refusal.{Refusal}
 use Rattle.irq_base.specs.declared.reply.Reply.TheVariants.{Done, Refused}
 use Rattle.irq_base.specs.declared.shape.Part.{Part}
+use Rattle.irq_base.specs.declared.shape.Shape.{Shape}
 use Rattle.irq_base.specs.declared.shape.Part.TheVariants as parts
 use Rattle.pic_8259a.specs.Pair.{is_port}
 use Rattle.event_counter.specs.Counters.{written}
@@ -32,15 +33,15 @@ use Rattle.board_step.specs.Registrations.{unless_refused, write}
 use Rattle.board_step.specs.Accesses.{pair_write, ioapic_store, lapic_store, port_out, store, ring_counter, rung, ring}
 use Rattle.board_step.specs.Calls.{number_of}
 use Rattle.board_step.specs.Step.{refusal_of, does_publish, publishes_unless, would_publish, plan_on, outcome_of, with_counts, Step}
-use Rattle.board_step.specs.History.{opening, Leads, next_board}
-use Rattle.board_laws.specs.Points.{board_at, board_left}
+use Rattle.board_step.specs.History.{opening, Leads, board_after}
+use Rattle.board_laws.specs.Points.{Point, board_at, board_left, IsLegal, OfLegalHistories}
 use Rattle.board_laws.specs.Rings.{rung_on, IsRefusedAlone}
-use Rattle.board_laws.specs.Deassigned.{MakesTrigger, ChangesCountAlone, SignalsNothing, RingsAlone, SignalsNoMore, NoSignalOfDeassignedTrigger}
-use Rattle.board_step.proofs.Following.{next_is, board_after_is_reached}
+use Rattle.board_laws.specs.Deassigned.{MakesTrigger, ChangesCountAlone, SignalsNothing, RingsAlone, SignalsNoMore, EndedSignalsNoMore, NoSignalOfDeassignedTrigger}
+use Rattle.board_laws.proofs.Points.{split, kept, before_point, step_at, at_points}
 use Rattle.board_step.proofs.SoundRows.{or_neither}
 use Rattle.board_laws.proofs.ConservingAcks.{or_right, allows, Allowed, quiet_conserving}
 use Rattle.board_laws.proofs.ConservingCalls.{Lets, rung_quiet, call_keeps, tick_keeps}
-use Rattle.board_laws.proofs.DeassignedRows.{last_answer, leads_apart, opening_apart, step_off, ends_off}
+use Rattle.board_laws.proofs.DeassignedRows.{AreApart, last_answer, step_apart, opening_apart, step_off, ends_off}
 
 -- ---- lists
 
@@ -308,11 +309,6 @@ signals_no_more counter b e c s off = record {
 
 -- ---- a history
 
--- the board between two parts of a history
-pub leads_both : (b : Board) (xs ys : List Entry) (c : Board) → Leads b (xs ++ ys) c → (mid : Board) × Leads b xs mid × Leads mid ys c
-leads_both b [] ys c leads = (b, refl, leads)
-leads_both b (x ∷ xs) ys c (next, step, leads) = let rest = leads_both next xs ys c leads in (rest.0, (next, step, rest.1), rest.2)
-
 -- a counter that is no trigger is none until it is made one
 leads_off : (trigger : ℕ) (b : Board) (es : List Entry) (c : Board) → Leads b es c → ((e : Entry) → Contains es e → MakesTrigger trigger e → ⊥) → is_trigger b.registry trigger ≡ false → is_trigger c.registry trigger ≡ false
 leads_off trigger b [] c same never off = subst (λ (d : Board). is_trigger d.registry trigger ≡ false) same off
@@ -320,20 +316,19 @@ leads_off trigger b (e ∷ es) c (next, step, leads) never off =
     leads_off trigger next es c leads (λ x in_es. never x (Contains-append_right (e ∷ []) es x in_es))
     (step_off trigger b e next step (never e (Contains-append_left (e ∷ []) es e (0, omega arith, refl))) off)
 
-pub no_signal_of_deassigned_trigger : NoSignalOfDeassignedTrigger
-no_signal_of_deassigned_trigger shape p legal early between end_ trigger before ends never =
-    let whole = leads_both (opening shape) p.before (p.entry ∷ p.after) legal.0 legal.1 in
-    of_point whole.0 whole.1 whole.2
+ended_signals_no_more : (shape : Shape) (p : Point) → IsLegal shape p → EndedSignalsNoMore shape p
+ended_signals_no_more shape p legal trigger ended = signals_no_more trigger (board_at shape p) p.entry (board_left shape p) (step_at shape p legal) (off (split (opening shape) ended.early (ended.end_ ∷ ended.between) (board_at shape p) to_point))
   where
-    off : (b : Board) → Leads (opening shape) (early ++ end_ ∷ between) b → is_trigger b.registry trigger ≡ false
-    off b leads = of_end (leads_both (opening shape) early (end_ ∷ between) b leads)
-      where
-        of_end : ((mid : Board) × Leads (opening shape) early mid × Leads mid (end_ ∷ between) b) → is_trigger b.registry trigger ≡ false
-        of_end (mid, first, (next, step, later)) = leads_off trigger next between b later never (ends_off trigger mid end_ next step ends (leads_apart (opening shape) early mid first (opening_apart shape)))
+    to_point : Leads (opening shape) (ended.early ++ ended.end_ ∷ ended.between) (board_at shape p)
+    to_point = subst (λ (es : List Entry). Leads (opening shape) es (board_at shape p)) ended.before (before_point shape p legal)
 
-    of_point : (b : Board) → Leads (opening shape) p.before b → Leads b (p.entry ∷ p.after) legal.0 → SignalsNoMore trigger (board_at shape p) p.entry (board_left shape p)
-    of_point b first (next, step, later) =
-        let at : board_at shape p ≡ b = board_after_is_reached (opening shape) p.before b first in
-        let left : board_left shape p ≡ next = ap (λ (d : Board). next_board d p.entry) at ∙ next_is b p.entry next step in
-        subst (λ (x : Board × Board). SignalsNoMore trigger x.0 p.entry x.1) (λ i. (sym at i, sym left i))
-        (signals_no_more trigger b p.entry next step (off b (subst (λ (es : List Entry). Leads (opening shape) es b) before first)))
+    at_end : Board
+    at_end = board_after (opening shape) ended.early
+
+    off : Leads (opening shape) ended.early at_end × Leads at_end (ended.end_ ∷ ended.between) (board_at shape p) → is_trigger (board_at shape p).registry trigger ≡ false
+    off (first, (next, step, later)) =
+        leads_off trigger next ended.between (board_at shape p) later ended.none_made
+        (ends_off trigger at_end ended.end_ next step ended.ends (kept (λ (b : Board). AreApart b.registry.irqfds) step_apart (opening shape) ended.early at_end first (opening_apart shape)))
+
+pub no_signal_of_deassigned_trigger : OfLegalHistories NoSignalOfDeassignedTrigger
+no_signal_of_deassigned_trigger = at_points EndedSignalsNoMore ended_signals_no_more

@@ -123,7 +123,7 @@ module _ (b : Board) (stand : HasProcessors b b.shape.cpus) where
 
   -- a signal that is lowered
   lowered_says : (pic ioapic : Option ℕ) (msi : Option MsiWord) → is_without_effect (lowered_status pic ioapic msi) ≡ true → IsSaidOf b (record { pic = pic; ioapic = ioapic; msi = msi }) (lowered_status pic ioapic msi)
-  lowered_says None None None quiet = refl
+  lowered_says None None None quiet = record { pic = refl; other = refl; first = refl; unrouted = (λ _. record { pic = refl; ioapic = refl; msi = refl }, λ _. refl) }
   lowered_says None None (Some word) quiet = absurd (true≢false (sym quiet))
   lowered_says None (Some pin) msi quiet = absurd (true≢false (sym quiet))
   lowered_says (Some pin) ioapic msi quiet = absurd (true≢false (sym quiet))
@@ -234,7 +234,7 @@ counted_requests true d n = refl
 counted_requests false d n = refl
 
 pub coalesced_and_ignored_change_no_request : CoalescedAndIgnoredChangeNoRequest
-coalesced_and_ignored_change_no_request b e c status stand s replied quiet = of_judged (call_judged b stand e.caller e.call s.wishes)
+coalesced_and_ignored_change_no_request b e c stand s status replied quiet = of_judged (call_judged b stand e.caller e.call s.wishes)
   where
     answers : (outcome_of b e s.wishes).log.answers ≡ Signal status ∷ []
     answers = s.replied ∙ ap (λ r. r ∷ []) replied

@@ -1,5 +1,5 @@
 -- Along every legal history each processor has its local APIC, and a status without effect changes no request.
-use Rattle.std.proofs.Common.{◌≡◌, ◌+◌, Bool, true, false, List, [], ◌∷◌, ◌++◌, map, length, true≢false, refl, sym, ap, ◌∙◌, subst, arith}
+use Rattle.std.proofs.Common.{◌≡◌, ◌+◌, Bool, true, false, map, length, true≢false, refl, sym, ap, ◌∙◌, subst, arith}
 use Rattle.std.specs.Prelude.{slice_get, unwrap_or}
 use Rattle.irq_base.specs.declared.call.Call.{Call}
 use Rattle.irq_base.specs.declared.call.Call.TheVariants as calls
@@ -18,11 +18,11 @@ use Rattle.board_step.specs.Refusals.{range_reasons}
 use Rattle.board_step.specs.Calls.{number_of, plan_in_range}
 use Rattle.board_step.specs.Sound.{LapicsStand}
 use Rattle.board_step.specs.Step.{plan_on, outcome_of, with_counts, would_publish, Step}
-use Rattle.board_step.specs.History.{opening, Leads, board_after}
-use Rattle.board_laws.specs.Points.{board_at}
+use Rattle.board_step.specs.History.{opening}
+use Rattle.board_laws.specs.Points.{Point, board_at, board_left, IsLegal, OfLegalHistories}
 use Rattle.board_laws.specs.Pending.{is_ack}
-use Rattle.board_laws.specs.Effect.{ChangesNoRequest, LapicsStayInPlace, StatusesWithoutEffectChangeNoRequest, IgnoredMaskedIsMasked}
-use Rattle.board_step.proofs.Following.{next_is}
+use Rattle.board_laws.specs.Effect.{EffectlessChangesNoRequest, MaskedMeetsMask, LapicsStayInPlace, StatusesWithoutEffectChangeNoRequest, IgnoredMaskedIsMasked}
+use Rattle.board_laws.proofs.Points.{step_at, holds_at, at_points}
 use Rattle.board_step.proofs.SoundOpening.{number_at, apics_many, apics_numbered}
 use Rattle.board_laws.proofs.PendingPlans.{Fine}
 use Rattle.board_laws.proofs.PendingCalls.{unless_safe, in_range_safe}
@@ -68,25 +68,21 @@ opening_stands shape = record {
   numbers = λ n. let at : (unwrap_or (slice_get (map power_on (numbers_below shape.cpus)) n) (power_on n)).number ≡ 0 + n = number_at 0 (map power_on (numbers_below shape.cpus)) n (power_on n) (apics_numbered shape.cpus) (omega arith) in omega (at, arith);
 }
 
--- an entry of a history is a step from the board before it, which has its local APICs
-abbrev StepsFrom : Board → Entry → Type 0
-StepsFrom d e = LapicsStand d × (next : Board) × Step d e next
-
-steps_at : (b : Board) (before : List Entry) (e : Entry) (after : List Entry) (last : Board) → LapicsStand b → Leads b (before ++ e ∷ after) last → StepsFrom (board_after b before) e
-steps_at b [] e after last stand (next, step, leads) = (stand, next, step)
-steps_at b (x ∷ before) e after last stand (next, step, leads) =
-    subst (λ d. StepsFrom (board_after d before) e) (sym (next_is b x next step)) (steps_at next before e after last (lapics_stay_in_place b x next stand step) leads)
-
 has_processors : (b : Board) → LapicsStand b → HasProcessors b b.shape.cpus
 has_processors b stand = record { places = let many : length b.lapics ≡ b.shape.cpus = stand.places in omega (many, arith); numbers = λ n _. stand.numbers n }
 
-pub statuses_without_effect_change_no_request : StatusesWithoutEffectChangeNoRequest
-statuses_without_effect_change_no_request shape p status (last, leads) replied quiet =
-    let at = steps_at (opening shape) p.before p.entry p.after last (opening_stands shape) leads in
-    subst (λ d. ChangesNoRequest (board_at shape p) p.entry d status) (sym (next_is (board_at shape p) p.entry at.1 at.2))
-    (coalesced_and_ignored_change_no_request (board_at shape p) p.entry at.1 status (has_processors (board_at shape p) at.0) at.2 replied quiet)
+stands_on : (b : Board) (e : Entry) (c : Board) → Step b e c → LapicsStand b → LapicsStand c
+stands_on b e c step stand = lapics_stay_in_place b e c stand step
 
-pub ignored_masked_is_masked : IgnoredMaskedIsMasked
-ignored_masked_is_masked shape p legal replied =
-    let told = statuses_without_effect_change_no_request shape p (Ignored Masked) legal replied refl in
-    record { targets = told.targets; signalled = told.signalled; masked = masked_only (board_at shape p) told.targets told.said }
+said_at : (shape : Shape) (p : Point) → IsLegal shape p → EffectlessChangesNoRequest (board_at shape p) p.entry (board_left shape p)
+said_at shape p legal =
+    let stand = holds_at shape p legal LapicsStand stands_on (opening_stands shape) in
+    coalesced_and_ignored_change_no_request (board_at shape p) p.entry (board_left shape p) (has_processors (board_at shape p) stand) (step_at shape p legal)
+
+pub statuses_without_effect_change_no_request : OfLegalHistories StatusesWithoutEffectChangeNoRequest
+statuses_without_effect_change_no_request = at_points (λ shape p. EffectlessChangesNoRequest (board_at shape p) p.entry (board_left shape p)) said_at
+
+pub ignored_masked_is_masked : OfLegalHistories IgnoredMaskedIsMasked
+ignored_masked_is_masked = at_points (λ shape p. MaskedMeetsMask (board_at shape p) p.entry (board_left shape p)) (λ shape p legal replied.
+    let told = said_at shape p legal (Ignored Masked) replied refl in
+    record { targets = told.targets; signalled = told.signalled; masked = masked_only (board_at shape p) told.targets told.said.first })

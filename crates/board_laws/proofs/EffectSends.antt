@@ -29,7 +29,7 @@ use Rattle.lapic.specs.Messages.{is_nmi, is_taken, accepted, with_error, with_re
 use Rattle.tick_reinject.specs.declared.state.TickState.{TickState}
 use Rattle.board_model.specs.Board.{ValueOf, Board, part_of, with_part}
 use Rattle.board_model.specs.Chips.{PicPart, IoapicPart, pair_of}
-use Rattle.board_model.specs.Statuses.{Sent, nobody, is_empty, TargetAnswer, newly_taken, stood_already, no_effect, message_answer, stands, first_cause, status_of}
+use Rattle.board_model.specs.Statuses.{Sent, nobody, is_empty, TargetAnswer, newly_taken, stood_already, no_effect, message_answer, stands, status_of}
 use Rattle.board_model.specs.Plan.{About, the_reply, Plan, done, look, put, tell, answer, choose, ◌>>=◌}
 use Rattle.board_model.specs.Run.{Wishes, Outcome, run}
 use Rattle.board_model.proofs.Lens.{part_of-with_other}
@@ -41,7 +41,7 @@ use Rattle.board_raise.specs.Laws.{processors_on, named_on, HasProcessors, IsSen
 use Rattle.board_raise.proofs.SendExactly.{after_seen, wishes_reach_exactly}
 use Rattle.board_raise.proofs.EffectNamed.{has_any, named_alike}
 use Rattle.board_laws.specs.Effect.{message_on, PicStood, IoapicStood, RequestStood, pic_answer_on, message_answer_by, message_answer_on, other_answer_on, IsSaidOf, is_without_effect, SameRequests}
-use Rattle.board_laws.proofs.EffectStood.{has_stood, pin_stood}
+use Rattle.board_laws.proofs.EffectStood.{has_stood, pin_stood, ignored_for}
 
 -- ---- plans that answer nothing and leave the requests of a board
 
@@ -183,10 +183,10 @@ module _ (b : Board) (targets : Targets) where
   said_of (Some stood_already) (Some (no_effect cause)) sent is says quiet = inl (pic_stood targets.pic refl is)
   said_of None (Some stood_already) sent is says quiet = inr says
   said_of (Some (no_effect cause)) (Some stood_already) sent is says quiet = inr says
-  said_of None None sent is says quiet = λ i. first_cause (is i) (says i)
-  said_of None (Some (no_effect cause)) sent is says quiet = λ i. first_cause (is i) (says i)
-  said_of (Some (no_effect cause)) None sent is says quiet = λ i. first_cause (is i) (says i)
-  said_of (Some (no_effect cause)) (Some (no_effect other)) sent is says quiet = λ i. first_cause (is i) (says i)
+  said_of None None sent is says quiet = ignored_for b targets None None is says refl refl
+  said_of None (Some (no_effect cause)) sent is says quiet = ignored_for b targets None (Some (no_effect cause)) is says refl refl
+  said_of (Some (no_effect cause)) None sent is says quiet = ignored_for b targets (Some (no_effect cause)) None is says refl refl
+  said_of (Some (no_effect cause)) (Some (no_effect other)) sent is says quiet = ignored_for b targets (Some (no_effect cause)) (Some (no_effect other)) is says refl refl
 
 -- where the message is newly taken, there is an effect
 newly_has_effect : (pic : Option TargetAnswer) (sent : Sent) → is_without_effect (status_of pic (Some newly_taken) sent) ≡ false

@@ -33,7 +33,7 @@ use Rattle.board_raise.specs.Named.{Processor}
 use Rattle.board_raise.specs.Send.{is_illegal}
 use Rattle.board_raise.specs.Signal.{pic_answer}
 use Rattle.board_raise.specs.Laws.{named_on}
-use Rattle.board_laws.specs.Effect.{chip_with_pin, is_pic_masked, PicPinsHaveTheirLines, is_pic_high, IsLatched, redirection_of, HasRemoteIrr, IsEdgeHigh, pic_answer_on, message_answer_by, message_answer_on, raise_answer_on, other_answer_on, cause_on, PicMasked, IoapicMasked}
+use Rattle.board_laws.specs.Effect.{chip_with_pin, is_pic_masked, PicPinsHaveTheirLines, is_pic_high, IsLatched, redirection_of, HasRemoteIrr, IsEdgeHigh, pic_answer_on, message_answer_by, message_answer_on, raise_answer_on, other_answer_on, cause_on, lacks_effect, HasNoTarget, IsIgnoredFor, PicMasked, IoapicMasked}
 
 -- what is in the numbers below a bound that pass, passes
 in_passes : (k : ℕ) (p : ℕ → Bool) (n : ℕ) → set.contains (set_below k p) n ≡ true → p n ≡ true
@@ -164,66 +164,109 @@ module _ (part : IoapicPart) (pin : ℕ) where
       by_bits false true message h = absurd (true≢false (sym h))
       by_bits false false message h = absurd (true≢false (sym h))
 
--- ---- the cause Masked
+-- ---- causes
 
-abbrev cause_masked : Cause → Bool
-cause_masked Masked = true
-cause_masked _ = false
+-- whether a target answers a cause that passes a test
+abbrev answers_cause : (Cause → Bool) → Option TargetAnswer → Bool
+answers_cause asked (Some (no_effect cause)) = asked cause
+answers_cause asked _ = false
 
-abbrev answers_masked : Option TargetAnswer → Bool
-answers_masked (Some (no_effect cause)) = cause_masked cause
-answers_masked _ = false
+abbrev is_masked_cause : Cause → Bool
+is_masked_cause Masked = true
+is_masked_cause _ = false
 
--- one of two targets answers it where it is the first cause
-one_answers : (pic other : Option TargetAnswer) → cause_masked (first_cause pic other) ≡ true → (answers_masked pic ≡ true) ⊎ (answers_masked other ≡ true)
-one_answers (Some (no_effect cause)) other h = inl h
-one_answers None (Some (no_effect cause)) h = inr h
-one_answers None (Some newly_taken) h = absurd (true≢false (sym h))
-one_answers None (Some stood_already) h = absurd (true≢false (sym h))
-one_answers None None h = absurd (true≢false (sym h))
-one_answers (Some newly_taken) (Some (no_effect cause)) h = inr h
-one_answers (Some newly_taken) (Some newly_taken) h = absurd (true≢false (sym h))
-one_answers (Some newly_taken) (Some stood_already) h = absurd (true≢false (sym h))
-one_answers (Some newly_taken) None h = absurd (true≢false (sym h))
-one_answers (Some stood_already) (Some (no_effect cause)) h = inr h
-one_answers (Some stood_already) (Some newly_taken) h = absurd (true≢false (sym h))
-one_answers (Some stood_already) (Some stood_already) h = absurd (true≢false (sym h))
-one_answers (Some stood_already) None h = absurd (true≢false (sym h))
+abbrev is_unrouted : Cause → Bool
+is_unrouted causes.Unrouted = true
+is_unrouted _ = false
+
+module _ (asked : Cause → Bool) where
+  -- where the first cause passes, one of two targets answers it, or neither is there to have a cause
+  one_answers : (pic other : Option TargetAnswer) → asked (first_cause pic other) ≡ true → (answers_cause asked pic ≡ true) ⊎ ((answers_cause asked other ≡ true) ⊎ (asked causes.Unrouted ≡ true))
+  one_answers (Some (no_effect cause)) other h = inl h
+  one_answers None (Some (no_effect cause)) h = inr (inl h)
+  one_answers (Some newly_taken) (Some (no_effect cause)) h = inr (inl h)
+  one_answers (Some stood_already) (Some (no_effect cause)) h = inr (inl h)
+  one_answers None None h = inr (inr h)
+  one_answers None (Some newly_taken) h = inr (inr h)
+  one_answers None (Some stood_already) h = inr (inr h)
+  one_answers (Some newly_taken) None h = inr (inr h)
+  one_answers (Some newly_taken) (Some newly_taken) h = inr (inr h)
+  one_answers (Some newly_taken) (Some stood_already) h = inr (inr h)
+  one_answers (Some stood_already) None h = inr (inr h)
+  one_answers (Some stood_already) (Some newly_taken) h = inr (inr h)
+  one_answers (Some stood_already) (Some stood_already) h = inr (inr h)
+
+  module _ (b : Board) (no_mode : asked causes.Mode ≡ false) (no_vector : asked causes.BadVector ≡ false) (nobody : asked causes.NoProcessor ≡ false) where
+    -- a message answers the causes of messages alone
+    message_never : (message : Message) → answers_cause asked (Some (message_answer_on b b.shape.cpus message)) ≡ false
+    message_never message = by_tests (is_taken message.mode) (named_on b b.shape.cpus message None)
+      where
+        by_tests : (taken : Bool) (ps : List Processor) → answers_cause asked (Some (if not taken then no_effect causes.Mode else message_answer_by message ps)) ≡ false
+        by_tests false ps = no_mode
+        by_tests true [] = nobody
+        by_tests true (p ∷ ps) = elim (is_illegal message) as (λ t. answers_cause asked (Some (if t then no_effect causes.BadVector else newly_taken)) ≡ false) [ true ↦ no_vector | false ↦ refl ]
+
+    -- an 8259A pin answers that it is masked alone
+    pic_answers : (pin : Option ℕ) → answers_cause asked (pic_answer_on b pin) ≡ true → (n : ℕ) × (pin ≡ Some n) × (is_masked (pin_outcome (pair_of b.pic) n true) ≡ true) × (asked Masked ≡ true)
+    pic_answers None h = absurd (true≢false (sym h))
+    pic_answers (Some pin) h = of_outcome (pin_outcome (pair_of b.pic) pin true) refl h
+      where
+        of_outcome : (o : PinOutcome) → pin_outcome (pair_of b.pic) pin true ≡ o → answers_cause asked (Some (pic_answer o)) ≡ true → (n : ℕ) × (Some pin ≡ Some n) × (is_masked (pin_outcome (pair_of b.pic) n true) ≡ true) × (asked Masked ≡ true)
+        of_outcome outcomes.Masked is h = (pin, refl, ap is_masked is, h)
+        of_outcome outcomes.New is h = absurd (true≢false (sym h))
+        of_outcome outcomes.Stood is h = absurd (true≢false (sym h))
+        of_outcome outcomes.Lowered is h = absurd (true≢false (sym h))
+
+    -- so does a pin of the I/O APIC, or as its message
+    other_answers : (ioapic : Option ℕ) (msi : Option MsiWord) → answers_cause asked (other_answer_on b b.shape.cpus ioapic msi) ≡ true → (n : ℕ) × (ioapic ≡ Some n) × (raise_masked (raise_of (ioapic_of b.ioapic) n) ≡ true) × (asked Masked ≡ true)
+    other_answers None None h = absurd (true≢false (sym h))
+    other_answers None (Some word) h = absurd (true≢false (sym h ∙ message_never (message_in word.address word.payload)))
+    other_answers (Some pin) msi h = of_raise (raise_of (ioapic_of b.ioapic) pin) refl h
+      where
+        of_raise : (r : Raise) → raise_of (ioapic_of b.ioapic) pin ≡ r → answers_cause asked (Some (raise_answer_on b b.shape.cpus r)) ≡ true → (n : ℕ) × (Some pin ≡ Some n) × (raise_masked (raise_of (ioapic_of b.ioapic) n) ≡ true) × (asked Masked ≡ true)
+        of_raise raises.Masked is h = (pin, refl, ap raise_masked is, h)
+        of_raise raises.Stood is h = absurd (true≢false (sym h))
+        of_raise (raises.Send message) is h = absurd (true≢false (sym h ∙ message_never message))
+
+-- the cause is Masked only where a pin of the targets is masked
+pub masked_only : (b : Board) (targets : Targets) → Masked ≡ cause_on b targets → PicMasked b targets ⊎ IoapicMasked b targets
+masked_only b targets is = of_answers (one_answers is_masked_cause (pic_answer_on b targets.pic) (other_answer_on b b.shape.cpus targets.ioapic targets.msi) (sym (ap is_masked_cause is)))
+  where
+    of_answers : (answers_cause is_masked_cause (pic_answer_on b targets.pic) ≡ true) ⊎ ((answers_cause is_masked_cause (other_answer_on b b.shape.cpus targets.ioapic targets.msi) ≡ true) ⊎ (false ≡ true))
+        → PicMasked b targets ⊎ IoapicMasked b targets
+    of_answers (inl h) = let (pin, there, masked, _) = pic_answers is_masked_cause b refl refl refl targets.pic h in inl (record { pin = pin; there = there; masked = pin_masked b.pic pin masked })
+    of_answers (inr (inl h)) = let (pin, there, masked, _) = other_answers is_masked_cause b refl refl refl targets.ioapic targets.msi h in inr (record { pin = pin; there = there; masked = raised_masked b.ioapic pin masked })
+    of_answers (inr (inr h)) = cc
 
 module _ (b : Board) (targets : Targets) where
-  pic_masks : (pin : Option ℕ) → targets.pic ≡ pin → answers_masked (pic_answer_on b pin) ≡ true → PicMasked b targets ⊎ IoapicMasked b targets
-  pic_masks None there h = absurd (true≢false (sym h))
-  pic_masks (Some pin) there h = of_outcome (pin_outcome (pair_of b.pic) pin true) refl h
+  -- where neither target has an effect, the cause is the first of theirs, and Unrouted exactly where there is none
+  pub ignored_for : (pic other : Option TargetAnswer) → pic ≡ pic_answer_on b targets.pic → other ≡ other_answer_on b b.shape.cpus targets.ioapic targets.msi → lacks_effect pic ≡ true → lacks_effect other ≡ true → IsIgnoredFor b targets (first_cause pic other)
+  ignored_for pic other is says no_pic no_other = record {
+    pic = sym (ap lacks_effect is) ∙ no_pic;
+    other = sym (ap lacks_effect says) ∙ no_other;
+    first = λ i. first_cause (is i) (says i);
+    unrouted = (λ unrouted. none pic other is says no_pic no_other (ap is_unrouted unrouted), λ no_target. all_none no_target);
+  }
     where
-      of_outcome : (o : PinOutcome) → pin_outcome (pair_of b.pic) pin true ≡ o → answers_masked (Some (pic_answer o)) ≡ true → PicMasked b targets ⊎ IoapicMasked b targets
-      of_outcome outcomes.Masked is h = inl (record { pin = pin; there = there; masked = pin_masked b.pic pin (ap is_masked is) })
-      of_outcome outcomes.New is h = absurd (true≢false (sym h))
-      of_outcome outcomes.Stood is h = absurd (true≢false (sym h))
-      of_outcome outcomes.Lowered is h = absurd (true≢false (sym h))
+      all_none : HasNoTarget targets → first_cause pic other ≡ causes.Unrouted
+      all_none gone = (λ i. first_cause (is i) (says i)) ∙ (λ i. first_cause (pic_answer_on b (gone.pic i)) (other_answer_on b b.shape.cpus (gone.ioapic i) (gone.msi i)))
 
-  -- no message answers it
-  message_masks : (message : Message) → answers_masked (Some (message_answer_on b b.shape.cpus message)) ≡ false
-  message_masks message = by_tests (is_taken message.mode) (named_on b b.shape.cpus message None)
-    where
-      by_tests : (taken : Bool) (ps : List Processor) → answers_masked (Some (if not taken then no_effect causes.Mode else message_answer_by message ps)) ≡ false
-      by_tests false ps = refl
-      by_tests true [] = refl
-      by_tests true (p ∷ ps) = elim (is_illegal message) as (λ t. answers_masked (Some (if t then no_effect causes.BadVector else newly_taken)) ≡ false) [ true ↦ refl | false ↦ refl ]
+      no_pin : (pin : Option ℕ) → None ≡ pic_answer_on b pin → pin ≡ None
+      no_pin None h = refl
+      no_pin (Some pin) h = cc
 
-  other_masks : (ioapic : Option ℕ) (msi : Option MsiWord) → targets.ioapic ≡ ioapic → answers_masked (other_answer_on b b.shape.cpus ioapic msi) ≡ true → PicMasked b targets ⊎ IoapicMasked b targets
-  other_masks None None there h = absurd (true≢false (sym h))
-  other_masks None (Some word) there h = absurd (true≢false (sym h ∙ message_masks (message_in word.address word.payload)))
-  other_masks (Some pin) msi there h = of_raise (raise_of (ioapic_of b.ioapic) pin) refl h
-    where
-      of_raise : (r : Raise) → raise_of (ioapic_of b.ioapic) pin ≡ r → answers_masked (Some (raise_answer_on b b.shape.cpus r)) ≡ true → PicMasked b targets ⊎ IoapicMasked b targets
-      of_raise raises.Masked is h = inr (record { pin = pin; there = there; masked = raised_masked b.ioapic pin (ap raise_masked is) })
-      of_raise raises.Stood is h = absurd (true≢false (sym h))
-      of_raise (raises.Send message) is h = absurd (true≢false (sym h ∙ message_masks message))
+      no_other_target : (ioapic : Option ℕ) (msi : Option MsiWord) → None ≡ other_answer_on b b.shape.cpus ioapic msi → (ioapic ≡ None) × (msi ≡ None)
+      no_other_target None None h = (refl, refl)
+      no_other_target None (Some word) h = cc
+      no_other_target (Some pin) msi h = cc
 
-  -- the cause is Masked only where a pin of the targets is masked
-  pub masked_only : Masked ≡ cause_on b targets → PicMasked b targets ⊎ IoapicMasked b targets
-  masked_only is = of_answers (one_answers (pic_answer_on b targets.pic) (other_answer_on b b.shape.cpus targets.ioapic targets.msi) (sym (ap cause_masked is)))
-    where
-      of_answers : (answers_masked (pic_answer_on b targets.pic) ≡ true) ⊎ (answers_masked (other_answer_on b b.shape.cpus targets.ioapic targets.msi) ≡ true) → PicMasked b targets ⊎ IoapicMasked b targets
-      of_answers (inl h) = pic_masks targets.pic refl h
-      of_answers (inr h) = other_masks targets.ioapic targets.msi refl h
+      none : (pic other : Option TargetAnswer) → pic ≡ pic_answer_on b targets.pic → other ≡ other_answer_on b b.shape.cpus targets.ioapic targets.msi → lacks_effect pic ≡ true → lacks_effect other ≡ true → is_unrouted (first_cause pic other) ≡ true → HasNoTarget targets
+      none None None is says no_pic no_other h = let both = no_other_target targets.ioapic targets.msi says in record { pic = no_pin targets.pic is; ioapic = both.0; msi = both.1 }
+      none (Some (no_effect cause)) other is says no_pic no_other h =
+          let (pin, there, masked, never) = pic_answers is_unrouted b refl refl refl targets.pic (sym (ap (answers_cause is_unrouted) is) ∙ h) in cc
+      none None (Some (no_effect cause)) is says no_pic no_other h =
+          let (pin, there, masked, never) = other_answers is_unrouted b refl refl refl targets.ioapic targets.msi (sym (ap (answers_cause is_unrouted) says) ∙ h) in cc
+      none (Some newly_taken) other is says no_pic no_other h = absurd (true≢false (sym no_pic))
+      none (Some stood_already) other is says no_pic no_other h = absurd (true≢false (sym no_pic))
+      none None (Some newly_taken) is says no_pic no_other h = absurd (true≢false (sym no_other))
+      none None (Some stood_already) is says no_pic no_other h = absurd (true≢false (sym no_other))

@@ -1,3 +1,4 @@
+pub mod Points
 pub mod PendingPlans
 pub mod PendingSends
 pub mod PendingSignals
@@ -22,3 +23,4 @@ pub mod EffectStood
 pub mod EffectSends
 pub mod EffectCalls
 pub mod EffectHistories
+pub mod Lawful

@@ -15,17 +15,17 @@ use Rattle.lapic.specs.Registers.{LocalApic, power_on}
 use Rattle.board_model.specs.Board.{Board}
 use Rattle.board_model.specs.Routing.{Routing, routing_of_registry}
 use Rattle.board_model.specs.Run.{Sending}
-use Rattle.board_model.proofs.Followed.{shown_followed}
 use Rattle.board_model.proofs.Staying.{frame_stays}
 use Rattle.board_raise.specs.Send.{numbers_below}
 use Rattle.board_raise.specs.Laws.{has_request_on}
 use Rattle.board_step.specs.Refusals.{range_reasons}
 use Rattle.board_step.specs.Calls.{number_of, plan_in_range}
 use Rattle.board_step.specs.Step.{would_publish, plan_on, outcome_of, with_counts, Step}
-use Rattle.board_step.specs.History.{opening, Leads, wishes_shown, next_board, board_after}
-use Rattle.board_laws.specs.Points.{board_at, board_left}
-use Rattle.board_laws.specs.Pending.{sendings_of, takes_by, is_processor, is_ack, takes, IsPendingOrTaken, SendingStands, RequestsStayPending}
-use Rattle.board_step.proofs.Following.{calls_steadily, wishes_are, next_is}
+use Rattle.board_step.specs.History.{Leads, wishes_shown, next_board}
+use Rattle.board_laws.specs.Points.{Point, board_at, board_left, IsLegal, OfLegalHistories}
+use Rattle.board_laws.specs.Pending.{sendings_of, takes_by, is_processor, is_ack, takes, IsPendingOrTaken, SendingStands, SendingsStand, RequestsStayPending}
+use Rattle.board_step.proofs.Following.{steps_are_followed, next_is}
+use Rattle.board_laws.proofs.Points.{step_at, after_point, holds_at, at_points}
 use Rattle.board_step.proofs.SoundOpening.{number_at, apics_many, apics_numbered}
 use Rattle.board_laws.proofs.PendingPlans.{or_later, has, at, Fine, IsMade, Good}
 use Rattle.board_laws.proofs.PendingCalls.{unless_safe, in_range_safe}
@@ -40,13 +40,6 @@ opening_fine cpus = record {
 }
 
 -- ---- one entry
-
--- under the wishes that an entry shows its call answers what the entry says
-answers_shown : (b : Board) (e : Entry) (c : Board) → Step b e c → (outcome_of b e (wishes_shown e)).log.answers ≡ e.reply ∷ []
-answers_shown b e c s =
-    ap (λ ws. (outcome_of b e ws).log.answers) (wishes_are b e c s)
-    ∙ ap (λ l. l.answers) (shown_followed (plan_on b e.caller e.call) b s.wishes (calls_steadily b e.caller e.call)).log
-    ∙ s.replied
 
 is_ack_is : (call : Call) → is_ack call ≡ true → call ≡ calls.Ack
 is_ack_is calls.Ack h = refl
@@ -116,7 +109,7 @@ passes_own b e c fine step = from (subst (LosesNone b e) (sym (counted_lapics (w
         kept k message (inr (is, told)) = inr (
             ap (λ t. t && (is_processor k e.caller && takes_by message e.reply)) (ap is_ack ack)
             ∙ ap (λ t. t && takes_by message e.reply) (asks_ack e.caller b.shape k (ap (λ x. is_allowed e.caller x b.shape) (sym ack) ∙ step.allowed) is)
-            ∙ told e.reply (answers_shown b e c step))
+            ∙ told e.reply (steps_are_followed b e c step).replied)
 
 -- a board of this shape with all its local APICs
 record Stands (shape : Shape) (b : Board) : Type 0 where
@@ -130,13 +123,6 @@ passes shape b e c stands step = subst (λ (s : Shape). Fine s.cpus b.lapics →
 
 leads_on : (b : Board) (e : Entry) (next : Board) (es : List Entry) (c : Board) → Step b e next → Leads next es c → Leads (next_board b e) es c
 leads_on b e next es c step later = subst (λ (x : Board). Leads x es c) (sym (next_is b e next step)) later
-
--- the board after the first entries stands, and the later ones lead on from it
-parted : (shape : Shape) (b : Board) (xs ys : List Entry) (c : Board) → Stands shape b → Leads b (xs ++ ys) c → Stands shape (board_after b xs) × Leads (board_after b xs) ys c
-parted shape b [] ys c stands leads = (stands, leads)
-parted shape b (e ∷ xs) ys c stands (next, step, later) =
-    let p = passes shape b e next stands step in
-    parted shape (next_board b e) xs ys c (record { same = p.same; fine = p.fine }) (leads_on b e next (xs ++ ys) c step later)
 
 stays : (shape : Shape) (b : Board) (es more : List Entry) (c : Board) → Stands shape b → Leads b (es ++ more) c → (n : ℕ) (message : Message) → has_request_on b message n ≡ true → IsPendingOrTaken b n message es
 stays shape b [] more c stands leads n message h = inl h
@@ -152,19 +138,21 @@ stays shape b (e ∷ es) more c stands (next, step, later) n message h =
         of_later (inr taken) = inr (or_later (takes n message e) (list_any (takes n message) es) taken)
     of_entry on (inr taken) = inr (ap (λ t. t || list_any (takes n message) es) taken)
 
-pub requests_stay_pending : RequestsStayPending
-requests_stay_pending shape p (last, leads) = at_point (parted shape (opening shape) p.before (p.entry ∷ p.after) last (record { same = refl; fine = opening_fine shape.cpus }) leads)
-  where
-    at_point : Stands shape (board_at shape p) × Leads (board_at shape p) (p.entry ∷ p.after) last
-        → All (λ (made : Board × Sending). SendingStands shape (board_left shape p) p.after made.0 made.1) (sendings_of (plan_on (board_at shape p) p.entry.caller p.entry.call) (board_at shape p) (wishes_shown p.entry))
-    at_point (stands, (next, step, later)) = λ k d below. of_made (passed.sent k d below)
-      where
-        passed : Passes shape (board_at shape p) p.entry
-        passed = passes shape (board_at shape p) p.entry next stands step
+step_stands : (shape : Shape) (b : Board) (e : Entry) (c : Board) → Step b e c → Stands shape b → Stands shape c
+step_stands shape b e c step stands = let p = passes shape b e c stands step in subst (Stands shape) (next_is b e c step) (record { same = p.same; fine = p.fine })
 
-        of_made : {b : Board} {s : Sending} → IsMade shape.cpus (board_left shape p).lapics b s → SendingStands shape (board_left shape p) p.after b s
-        of_made {b} {s} made = record {
-          chosen = made.chosen;
-          pending = λ n there es more is. stays shape (board_left shape p) es more last (record { same = passed.same; fine = passed.fine })
-              (subst (λ (l : List Entry). Leads (board_left shape p) l last) is (leads_on (board_at shape p) p.entry next p.after last step later)) n s.heading.message (made.pending n there);
-        }
+sendings_stand : (shape : Shape) (p : Point) → IsLegal shape p → SendingsStand shape p
+sendings_stand shape p legal = λ k d below. of_made (passed.sent k d below)
+  where
+    passed : Passes shape (board_at shape p) p.entry
+    passed = passes shape (board_at shape p) p.entry (board_left shape p) (holds_at shape p legal (Stands shape) (step_stands shape) (record { same = refl; fine = opening_fine shape.cpus })) (step_at shape p legal)
+
+    of_made : {b : Board} {s : Sending} → IsMade shape.cpus (board_left shape p).lapics b s → SendingStands shape (board_left shape p) p.after b s
+    of_made {b} {s} made = record {
+      chosen = made.chosen;
+      pending = λ n es there begins. stays shape (board_left shape p) es begins.0 legal.0 (record { same = passed.same; fine = passed.fine })
+          (subst (λ (l : List Entry). Leads (board_left shape p) l legal.0) begins.1 (after_point shape p legal)) n s.heading.message (made.pending n there);
+    }
+
+pub requests_stay_pending : OfLegalHistories RequestsStayPending
+requests_stay_pending = at_points SendingsStand sendings_stand

@@ -1,21 +1,19 @@
 -- Each acknowledge of a legal history resamples once, in order.
-use Rattle.std.proofs.Common.{◌≡◌, ℕ, Bool, true, false, inl, inr, List, [], ◌∷◌, ◌++◌, Some, refl, sym, ap, subst, ◌∙◌}
+use Rattle.std.proofs.Common.{◌≡◌, ℕ, Bool, true, false, inl, inr, List, [], ◌∷◌, ◌++◌, Some, refl, ap, subst, ◌∙◌}
 use Rattle.std.specs.declared.option.Option.{Option}
 use Rattle.irq_base.specs.declared.event.Event.{Event}
 use Rattle.irq_base.specs.declared.event.Event.TheVariants.{Acked}
 use Rattle.irq_base.specs.declared.event.Pin.{Pin}
 use Rattle.irq_base.specs.declared.lists.Entry.{Entry}
-use Rattle.irq_base.specs.declared.shape.Shape.{Shape}
 use Rattle.irq_base.specs.Counts.{signalled_all}
 use Rattle.irqfd_set.specs.Rows.{has_resampler}
 use Rattle.board_model.specs.Registry.{RegistryPart}
 use Rattle.board_model.specs.Board.{Board}
 use Rattle.board_model.specs.Run.{Outcome}
 use Rattle.board_step.specs.Step.{would_publish, with_counts, outcome_of, Step}
-use Rattle.board_step.specs.History.{opening, Leads, next_board, board_after}
-use Rattle.board_laws.specs.Points.{Point, board_at, board_left, IsLegal}
-use Rattle.board_laws.specs.Resampling.{counters_told, signals_told, signals_owed, ResamplesOnce}
-use Rattle.board_step.proofs.Following.{next_is}
+use Rattle.board_laws.specs.Points.{OfLegalHistories}
+use Rattle.board_laws.specs.Resampling.{counters_told, signals_told, signals_owed, ResamplesOnce, AcknowledgesResampleOnce, EachAcknowledgeResamplesOnce}
+use Rattle.board_laws.proofs.Points.{at_entries}
 use Rattle.board_laws.proofs.ResamplingPlans.{AreQuiet}
 use Rattle.board_laws.proofs.ResamplingAcks.{Followed, Follows, Resamples}
 use Rattle.board_laws.proofs.ResamplingCalls.{call_minded}
@@ -36,7 +34,7 @@ counted_same true b e gsi after c once = record { more = once.more; events = onc
 counted_same false b e gsi after c once = record { more = once.more; events = once.events; counts = once.counts; once = once.once; pic = once.pic; ioapic = once.ioapic }
 
 -- an acknowledge of a step resamples once
-pub step_resamples : (b : Board) (e : Entry) (c : Board) → Step b e c → (before after : List Event) (pin : Pin) (gsi : ℕ) → e.events ≡ before ++ Acked pin (Some gsi) ∷ after → has_resampler b.registry.irqfds gsi ≡ true → ResamplesOnce b e c gsi after
+step_resamples : (b : Board) (e : Entry) (c : Board) → Step b e c → (before after : List Event) (pin : Pin) (gsi : ℕ) → e.events ≡ before ++ Acked pin (Some gsi) ∷ after → has_resampler b.registry.irqfds gsi ≡ true → ResamplesOnce b e c gsi after
 step_resamples b e c step before after pin gsi told on =
     let o : Outcome (Unit {0}) = outcome_of b e step.wishes in
     let events : o.log.events ≡ before ++ Acked pin (Some gsi) ∷ after = step.told ∙ told in
@@ -54,12 +52,5 @@ step_resamples b e c step before after pin gsi told on =
           }))
     ]
 
--- ---- a history
-
--- each entry of a history is a step from the board before it to the board after it
-step_there : (b : Board) (es : List Entry) (e : Entry) (more : List Entry) (last : Board) → Leads b (es ++ e ∷ more) last → Step (board_after b es) e (next_board (board_after b es) e)
-step_there b [] e more last (next, step, leads) = subst (λ (c : Board). Step b e c) (sym (next_is b e next step)) step
-step_there b (x ∷ es) e more last (next, step, leads) = subst (λ (c : Board). Step (board_after c es) e (next_board (board_after c es) e)) (sym (next_is b x next step)) (step_there next es e more last leads)
-
-pub resamples_once : (shape : Shape) (p : Point shape) → IsLegal shape p → (before after : List Event) (pin : Pin) (gsi : ℕ) → p.entry.events ≡ before ++ Acked pin (Some gsi) ∷ after → has_resampler (board_at shape p).registry.irqfds gsi ≡ true → ResamplesOnce (board_at shape p) p.entry (board_left shape p) gsi after
-resamples_once shape p (last, leads) before after pin gsi told on = step_resamples (board_at shape p) p.entry (board_left shape p) (step_there (opening shape) p.before p.entry p.after last leads) before after pin gsi told on
+pub resamples_once : OfLegalHistories EachAcknowledgeResamplesOnce
+resamples_once = at_entries AcknowledgesResampleOnce (λ b e c step gsi after acked. step_resamples b e c step acked.before after acked.pin gsi acked.told acked.resamples)

@@ -11,7 +11,7 @@ use Rattle.irq_base.specs.declared.shape.Part.{Part}
 use Rattle.irq_base.specs.declared.shape.Part.TheVariants.{Counters}
 use Rattle.irq_base.specs.declared.shape.Shape.{Shape}
 use Rattle.board_model.specs.Board.{Board, part_of}
-use Rattle.board_laws.specs.Points.{Point, board_at, board_left, IsLegal}
+use Rattle.board_laws.specs.Points.{Point, board_at, board_left, AtEachPoint}
 use Rattle.board_laws.specs.Rings.{rung_on, IsRefusedAlone}
 
 -- an entry that ends the irqfd of a trigger
@@ -50,7 +50,19 @@ pub record SignalsNoMore (counter : ℕ) (b : Board) (e : Entry) (c : Board) : T
   pub rung : rung_on b e.call ≡ Some counter → IsRefusedAlone b e c ⊎ RingsAlone counter b e c
   pub told : Contains e.events (Rang counter) → rung_on b e.call ≡ Some counter
 
--- so it is in each legal history
-abbrev pub NoSignalOfDeassignedTrigger : Type 0
-NoSignalOfDeassignedTrigger = (shape : Shape) (p : Point shape) → IsLegal shape p → (early between : List Entry) (end_ : Entry) (trigger : ℕ) → p.before ≡ early ++ end_ ∷ between → EndsTrigger trigger end_ →
-    ((e : Entry) → Contains between e → MakesTrigger trigger e → ⊥) → SignalsNoMore trigger (board_at shape p) p.entry (board_left shape p)
+-- before the point an entry ended the irqfd of the trigger, and none made one since
+pub record HasEnded (trigger : ℕ) (p : Point) : Type 0 where
+  pub early : List Entry
+  pub end_ : Entry
+  pub between : List Entry
+  pub before : p.before ≡ early ++ end_ ∷ between
+  pub ends : EndsTrigger trigger end_
+  pub none_made : (e : Entry) → Contains between e → MakesTrigger trigger e → ⊥
+
+-- so it is at a point
+abbrev pub EndedSignalsNoMore : Shape → Point → Type 0
+EndedSignalsNoMore shape p = (trigger : ℕ) → HasEnded trigger p → SignalsNoMore trigger (board_at shape p) p.entry (board_left shape p)
+
+-- so it is at each point of a history
+abbrev pub NoSignalOfDeassignedTrigger : Shape → List Entry → Type 0
+NoSignalOfDeassignedTrigger = AtEachPoint EndedSignalsNoMore

@@ -1,5 +1,5 @@
 -- A signal that is coalesced or ignored changes no request (over this board's own definitions).
-use Rattle.std.specs.Prelude.{◌≡◌, ℕ, ◌+◌, Bool, true, false, not, if◌then◌else◌, ◌⊎◌, List, [], ◌∷◌, option_map, Some, None, ◌%◌, ◌<◌, nat_lt}
+use Rattle.std.specs.Prelude.{◌≡◌, ℕ, ◌+◌, Bool, true, false, not, if◌then◌else◌, ◌⊎◌, ◌↔◌, List, [], ◌∷◌, option_map, Some, None, ◌%◌, ◌<◌, nat_lt}
 use Rattle.std.specs.declared.option.Option.{Option}
 use Rattle.std.specs.FinSet as set
 use Rattle.irq_bits.specs.Members.{Numbers}
@@ -13,7 +13,7 @@ use Rattle.irq_base.specs.declared.reply.Reply.TheVariants.{Signal}
 use Rattle.irq_base.specs.declared.shape.Part.TheVariants.{Lapic}
 use Rattle.irq_base.specs.declared.shape.Shape.{Shape}
 use Rattle.irq_base.specs.declared.status.Cause.{Cause}
-use Rattle.irq_base.specs.declared.status.Cause.TheVariants.{Masked, NoProcessor, BadVector, Mode}
+use Rattle.irq_base.specs.declared.status.Cause.TheVariants.{Masked, NoProcessor, BadVector, Mode, Unrouted}
 use Rattle.irq_base.specs.declared.status.Status.{Status}
 use Rattle.irq_base.specs.declared.status.Status.TheVariants.{Coalesced, Ignored}
 use Rattle.pic_8259a.specs.Pair.{pin_outcome}
@@ -34,7 +34,7 @@ use Rattle.board_raise.specs.Signal.{pic_answer}
 use Rattle.board_raise.specs.Laws.{named_on, HasProcessors, has_request_on}
 use Rattle.board_step.specs.Step.{Step}
 use Rattle.board_step.specs.Sound.{LapicsStand}
-use Rattle.board_laws.specs.Points.{Point, board_at, board_left, IsLegal}
+use Rattle.board_laws.specs.Points.{AtEachEntry}
 
 -- the message target alone
 abbrev pub message_target : ℕ → ℕ → Targets
@@ -132,7 +132,8 @@ message_answer_by message (p ∷ ps) = if is_illegal message then no_effect BadV
 
 -- the same, by its mode
 abbrev pub message_answer_on : Board → ℕ → Message → TargetAnswer
-message_answer_on b cpus message = if not (is_taken message.mode) then no_effect Mode else message_answer_by message (named_on b cpus message None)
+message_answer_on b cpus message =
+    if not (is_taken message.mode) then no_effect Mode else message_answer_by message (named_on b cpus message None)
 
 -- what a pin of the I/O APIC answers
 abbrev pub raise_answer_on : Board → ℕ → Raise → TargetAnswer
@@ -150,11 +151,31 @@ other_answer_on b cpus None None = None
 abbrev pub cause_on : Board → Targets → Cause
 cause_on b targets = first_cause (pic_answer_on b targets.pic) (other_answer_on b b.shape.cpus targets.ioapic targets.msi)
 
+-- whether a target is not there, or has no effect
+abbrev pub lacks_effect : Option TargetAnswer → Bool
+lacks_effect None = true
+lacks_effect (Some (no_effect cause)) = true
+lacks_effect (Some answer) = false
+
+-- there is no target
+pub record HasNoTarget (targets : Targets) : Type 0 where
+  pub pic : targets.pic ≡ None
+  pub ioapic : targets.ioapic ≡ None
+  pub msi : targets.msi ≡ None
+
+-- at no target was the signal taken, nor did its request stand; the cause is the first of theirs, and Unrouted exactly where there
+-- is no target
+pub record IsIgnoredFor (b : Board) (targets : Targets) (cause : Cause) : Type 0 where
+  pub pic : lacks_effect (pic_answer_on b targets.pic) ≡ true
+  pub other : lacks_effect (other_answer_on b b.shape.cpus targets.ioapic targets.msi) ≡ true
+  pub first : cause ≡ cause_on b targets
+  pub unrouted : (cause ≡ Unrouted) ↔ HasNoTarget targets
+
 -- what a status says of its targets: Coalesced, that at some target the line was high, the request stood or remote IRR was
--- set; Ignored, the cause
+-- set; Ignored, why none has an effect
 abbrev pub IsSaidOf : Board → Targets → Status → Type 0
 IsSaidOf b targets (Coalesced stood) = PicStood b targets ⊎ (IoapicStood b targets ⊎ RequestStood b targets stood)
-IsSaidOf b targets (Ignored cause) = cause ≡ cause_on b targets
+IsSaidOf b targets (Ignored cause) = IsIgnoredFor b targets cause
 IsSaidOf b targets _ = Unit {0}
 
 -- a status without effect
@@ -174,17 +195,23 @@ pub record ChangesNoRequest (b : Board) (e : Entry) (c : Board) (status : Status
   pub said : IsSaidOf b targets status
   pub requests : SameRequests b c
 
+-- so it is of an entry, whatever status without effect it replies
+abbrev pub EffectlessChangesNoRequest : Board → Entry → Board → Type 0
+EffectlessChangesNoRequest b e c =
+    (status : Status) → e.reply ≡ Signal status → is_without_effect status ≡ true → ChangesNoRequest b e c status
+
 -- so it is in each step from a board on which each processor has a local APIC with its number
 abbrev pub CoalescedAndIgnoredChangeNoRequest : Type 0
-CoalescedAndIgnoredChangeNoRequest = (b : Board) (e : Entry) (c : Board) (status : Status) → HasProcessors b b.shape.cpus → Step b e c → e.reply ≡ Signal status → is_without_effect status ≡ true → ChangesNoRequest b e c status
+CoalescedAndIgnoredChangeNoRequest =
+    (b : Board) (e : Entry) (c : Board) → HasProcessors b b.shape.cpus → Step b e c → EffectlessChangesNoRequest b e c
 
 -- a step keeps a local APIC for each processor, with its number
 abbrev pub LapicsStayInPlace : Type 0
 LapicsStayInPlace = (b : Board) (e : Entry) (c : Board) → LapicsStand b → Step b e c → LapicsStand c
 
--- a status without effect is said of its targets and changes no request, in each entry of a legal history
-abbrev pub StatusesWithoutEffectChangeNoRequest : Type 0
-StatusesWithoutEffectChangeNoRequest = (shape : Shape) (p : Point shape) (status : Status) → IsLegal shape p → p.entry.reply ≡ Signal status → is_without_effect status ≡ true → ChangesNoRequest (board_at shape p) p.entry (board_left shape p) status
+-- so it is at each entry of a history
+abbrev pub StatusesWithoutEffectChangeNoRequest : Shape → List Entry → Type 0
+StatusesWithoutEffectChangeNoRequest = AtEachEntry EffectlessChangesNoRequest
 
 -- the 8259A pin was masked, by its bit of the IMR
 pub record PicMasked (b : Board) (targets : Targets) : Type 0 where
@@ -204,6 +231,10 @@ pub record MeetsMask (b : Board) (e : Entry) : Type 0 where
   pub signalled : signal_targets (routing_of_registry b.registry b.shape.tick) b.shape e.call ≡ Some targets
   pub masked : PicMasked b targets ⊎ IoapicMasked b targets
 
--- the cause Masked is replied in a legal history only where a pin of the targets was masked
-abbrev pub IgnoredMaskedIsMasked : Type 0
-IgnoredMaskedIsMasked = (shape : Shape) (p : Point shape) → IsLegal shape p → p.entry.reply ≡ Signal (Ignored Masked) → MeetsMask (board_at shape p) p.entry
+-- the cause Masked is replied only where a pin of the targets was masked
+abbrev pub MaskedMeetsMask : Board → Entry → Board → Type 0
+MaskedMeetsMask b e c = e.reply ≡ Signal (Ignored Masked) → MeetsMask b e
+
+-- so it is at each entry of a history
+abbrev pub IgnoredMaskedIsMasked : Shape → List Entry → Type 0
+IgnoredMaskedIsMasked = AtEachEntry MaskedMeetsMask

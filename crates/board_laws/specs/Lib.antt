@@ -4,5 +4,6 @@ pub mod Effect
 pub mod Resampling
 pub mod Rings
 pub mod Deassigned
-pub mod Ticks
 pub mod Irqfds
+pub mod Ticks
+pub mod Lawful

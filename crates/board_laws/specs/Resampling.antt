@@ -16,7 +16,7 @@ use Rattle.resampler.specs.Resample.{resample_events}
 use Rattle.route_table.specs.Pins.{gsi_of}
 use Rattle.board_model.specs.Registry.{RegistryPart}
 use Rattle.board_model.specs.Board.{Board}
-use Rattle.board_laws.specs.Points.{Point, board_at, board_left, IsLegal}
+use Rattle.board_laws.specs.Points.{AtEachEntry}
 
 -- the counter that an event tells to be signalled by an acknowledge
 abbrev pub counter_told : Event → List ℕ
@@ -52,7 +52,8 @@ signals_owed registry (event ∷ events) = signal_owed registry event ++ signals
 
 -- Resample holds no pin of the GSI; `chip` makes a pin of its number
 abbrev pub IsReleased : RegistryPart → ℕ → Holds → (ℕ → Pin) → Type 0
-IsReleased registry gsi holds chip = (pin : ℕ) → gsi_of registry.table (chip pin) ≡ Some gsi → set.contains holds (hold pin Resample) ≡ false
+IsReleased registry gsi holds chip =
+    (pin : ℕ) → gsi_of registry.table (chip pin) ≡ Some gsi → set.contains holds (hold pin Resample) ≡ false
 
 -- after the Acked of a GSI with resamplers comes one Resampled for each of them, in order; the entry tells no others than each
 -- Acked brings about; each event adds one to its counter, a full one staying full; and after the entry Resample holds no pin
@@ -65,6 +66,17 @@ pub record ResamplesOnce (b : Board) (e : Entry) (c : Board) (gsi : ℕ) (after 
   pub pic : IsReleased b.registry gsi c.pic.holds pins.Pic
   pub ioapic : IsReleased b.registry gsi c.ioapic.holds pins.Ioapic
 
--- so it is of each Acked in a legal history
-abbrev pub EachAcknowledgeResamplesOnce : Type 0
-EachAcknowledgeResamplesOnce = (shape : Shape) (p : Point shape) → IsLegal shape p → (before after : List Event) (pin : Pin) (gsi : ℕ) → p.entry.events ≡ before ++ Acked pin (Some gsi) ∷ after → has_resampler (board_at shape p).registry.irqfds gsi ≡ true → ResamplesOnce (board_at shape p) p.entry (board_left shape p) gsi after
+-- an entry tells an Acked of a GSI that has resamplers, and then these events
+pub record Acknowledges (b : Board) (e : Entry) (gsi : ℕ) (after : List Event) : Type 0 where
+  pub before : List Event
+  pub pin : Pin
+  pub told : e.events ≡ before ++ Acked pin (Some gsi) ∷ after
+  pub resamples : has_resampler b.registry.irqfds gsi ≡ true
+
+-- so it is of each Acked of an entry
+abbrev pub AcknowledgesResampleOnce : Board → Entry → Board → Type 0
+AcknowledgesResampleOnce b e c = (gsi : ℕ) (after : List Event) → Acknowledges b e gsi after → ResamplesOnce b e c gsi after
+
+-- so it is at each entry of a history
+abbrev pub EachAcknowledgeResamplesOnce : Shape → List Entry → Type 0
+EachAcknowledgeResamplesOnce = AtEachEntry AcknowledgesResampleOnce

@@ -15,7 +15,8 @@ use Rattle.board_step.specs.Refusals.{is_ioapic_address, is_lapic_address}
 -- the counter that a guest write rings: that of the ioeventfd which it fits, where it is to no chip
 abbrev pub rung_on : Board → Call → Option ℕ
 rung_on b (PortOut port len value) = if is_port port then None else rung_by b.registry.ioevents spaces.Port port len value
-rung_on b (Store address len value) = if is_ioapic_address address || is_lapic_address address then None else rung_by b.registry.ioevents spaces.Memory address len value
+rung_on b (Store address len value) =
+    if is_ioapic_address address || is_lapic_address address then None else rung_by b.registry.ioevents spaces.Memory address len value
 rung_on b _ = None
 
 -- a call that is refused: it tells no event, and changes nothing but the count of calls

@@ -1,4 +1,4 @@
--- Ticks are conserved (over this board's own definitions).
+-- Ticks are conserved, and are injected where the state is free or by an acknowledge of their own (over this board's own definitions).
 use Rattle.std.specs.Prelude.{◌≡◌, ◌≢◌, ℕ, ◌+◌, Bool, true, false, nat_eq, min, if◌then◌else◌, ◌⊎◌, List, [], ◌∷◌, ◌++◌, Some}
 use Rattle.std.specs.List.{Contains, list_any}
 use Rattle.std.specs.declared.option.Option.{Option}
@@ -8,7 +8,7 @@ use Rattle.irq_base.specs.declared.event.Event.{Event}
 use Rattle.irq_base.specs.declared.event.Event.TheVariants.{Acked, Rang, Injected}
 use Rattle.irq_base.specs.declared.event.Pin.{Pin}
 use Rattle.irq_base.specs.declared.lists.Entry.{Entry}
-use Rattle.irq_base.specs.declared.reply.Reply.TheVariants.{Held}
+use Rattle.irq_base.specs.declared.reply.Reply.TheVariants.{Held, Signal}
 use Rattle.irq_base.specs.declared.shape.Part.{Part}
 use Rattle.irq_base.specs.declared.shape.Part.TheVariants.{Tick as TickPart}
 use Rattle.irq_base.specs.declared.shape.Shape.{Shape}
@@ -16,7 +16,8 @@ use Rattle.irq_base.specs.declared.status.Status.{Status}
 use Rattle.tick_reinject.specs.Ticks.{ticked}
 use Rattle.board_model.specs.Board.{Board, part_of}
 use Rattle.board_step.specs.Step.{Step}
-use Rattle.board_step.specs.History.{opening, Leads, next_board, board_after}
+use Rattle.board_step.specs.History.{opening, next_board, board_after}
+use Rattle.board_laws.specs.Points.{AtEachEntry, OfEachBoard}
 
 -- one for a Tick, none for another call
 abbrev pub is_tick : Call → ℕ
@@ -67,11 +68,21 @@ pub record TurnsReinjectionOn (early : List Entry) : Type 0 where
 abbrev pub StartsReinjection : List Entry → Type 0
 StartsReinjection early = (early ≡ []) ⊎ TurnsReinjectionOn early
 
--- in a legal history, from the start of reinjection on, and until the mode is set again, the ticks are those that are pending
--- and those that acknowledges took
-abbrev pub TicksAreConserved : Type 0
-TicksAreConserved = (shape : Shape) (early es more : List Entry) (last : Board) → Leads (opening shape) (early ++ (es ++ more)) last → StartsReinjection early → list_any sets_mode es ≡ false →
-    ticks_in es ≡ (board_after (opening shape) (early ++ es)).tick.pending + ticks_taken (board_after (opening shape) early) es
+-- in a history reinjection starts after the early entries, and in these that follow them the mode is not set
+pub record IsStretch (early es history : List Entry) : Type 0 where
+  pub more : List Entry
+  pub parts : history ≡ early ++ (es ++ more)
+  pub starts : StartsReinjection early
+  pub stays : list_any sets_mode es ≡ false
+
+-- from the start of reinjection on, and until the mode is set again, the ticks are those that are pending and those that
+-- acknowledges took
+abbrev pub TicksAreConserved : Shape → List Entry → Type 0
+TicksAreConserved shape history =
+    (early es : List Entry) → IsStretch early es history
+    → ticks_in es ≡ (board_after (opening shape) (early ++ es)).tick.pending + ticks_taken (board_after (opening shape) early) es
+
+-- ---- ticks inject where the state is free
 
 -- a tick that is held back: it is pending, no event is told, and no part but the tick state changes
 pub record HoldsBack (b : Board) (e : Entry) (c : Board) : Type 0 where
@@ -80,9 +91,30 @@ pub record HoldsBack (b : Board) (e : Entry) (c : Board) : Type 0 where
   pub tick : c.tick ≡ ticked b.tick
   pub parts : (q : Part) → q ≢ TickPart → part_of c q ≡ part_of b q
 
--- under reinjection a tick that falls where the state is not free is held back, so that ticks inject only where it is free
-abbrev pub TicksInjectFree : Type 0
-TicksInjectFree = (b : Board) (e : Entry) (c : Board) → Step b e c → e.call ≡ Tick → b.tick.reinjects ≡ true → b.tick.free ≡ false → HoldsBack b e c
+-- in each step under reinjection a tick that falls where the state is not free is held back
+abbrev pub BusyTicksAreHeldBack : Type 0
+BusyTicksAreHeldBack =
+    (b : Board) (e : Entry) (c : Board) → Step b e c → e.call ≡ Tick → b.tick.reinjects ≡ true → b.tick.free ≡ false
+    → HoldsBack b e c
+
+-- without reinjection the state is free
+abbrev pub IsFreeUnlessReinjects : Board → Type 0
+IsFreeUnlessReinjects b = b.tick.reinjects ≡ false → b.tick.free ≡ true
+
+-- so it is of each board of a history
+abbrev pub StateIsFreeUnlessReinjects : Shape → List Entry → Type 0
+StateIsFreeUnlessReinjects = OfEachBoard IsFreeUnlessReinjects
+
+-- a tick that falls is injected, with its status as the reply, only where the state is free; else it is held back
+pub record FallsFree (b : Board) (e : Entry) (c : Board) : Type 0 where
+  pub injected : (status : Status) → e.call ≡ Tick → e.reply ≡ Signal status → b.tick.free ≡ true
+  pub held : e.call ≡ Tick → b.tick.free ≡ false → HoldsBack b e c
+
+-- so it is at each entry of a history, in either mode
+abbrev pub TicksInjectFree : Shape → List Entry → Type 0
+TicksInjectFree = AtEachEntry (λ b e c. FallsFree b e c)
+
+-- ---- other injections
 
 -- whether an event is an acknowledge or an injection
 abbrev pub acks_or_injects : Event → Bool
@@ -98,8 +130,27 @@ pub record FollowsAcknowledge (gsi : ℕ) (before : List Event) : Type 0 where
   pub told : before ≡ early ++ Acked pin (Some gsi) ∷ mid
   pub next : list_any acks_or_injects mid ≡ false
 
+-- an entry that rings no ioeventfd and makes no irqfd
+pub record SignalsNoIrqfd (e : Entry) : Type 0 where
+  pub rings : (counter : ℕ) → Contains e.events (Rang counter) → ⊥
+  pub makes : (trigger gsi : ℕ) (resample : Option ℕ) → e.call ≡ Assign trigger gsi resample → ⊥
+
+-- an entry tells these events, and then an injection of the GSI
+pub record Injects (e : Entry) (before : List Event) (gsi : ℕ) : Type 0 where
+  pub status : Status
+  pub after : List Event
+  pub told : e.events ≡ before ++ Injected gsi status ∷ after
+
 -- in an entry that rings no ioeventfd and makes no irqfd, each injection is of the tick, and has an acknowledge of the tick's
 -- GSI to itself
+abbrev pub InjectsAfterAcknowledges : Board → Entry → Board → Type 0
+InjectsAfterAcknowledges b e c =
+    SignalsNoIrqfd e → (before : List Event) (gsi : ℕ) → Injects e before gsi → (gsi ≡ b.shape.tick) × FollowsAcknowledge gsi before
+
+-- so it is in each step
 abbrev pub OtherInjectionsFollowAcknowledges : Type 0
-OtherInjectionsFollowAcknowledges = (b : Board) (e : Entry) (c : Board) → Step b e c → ((counter : ℕ) → Contains e.events (Rang counter) → ⊥) → ((trigger gsi : ℕ) (resample : Option ℕ) → e.call ≡ Assign trigger gsi resample → ⊥) →
-    (before after : List Event) (gsi : ℕ) (status : Status) → e.events ≡ before ++ Injected gsi status ∷ after → (gsi ≡ b.shape.tick) × FollowsAcknowledge gsi before
+OtherInjectionsFollowAcknowledges = (b : Board) (e : Entry) (c : Board) → Step b e c → InjectsAfterAcknowledges b e c
+
+-- so it is at each entry of a history
+abbrev pub InjectionsFollowAcknowledges : Shape → List Entry → Type 0
+InjectionsFollowAcknowledges = AtEachEntry InjectsAfterAcknowledges

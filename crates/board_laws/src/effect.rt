@@ -1,5 +1,6 @@
 //! Signals without effect, as laws: the functions do nothing.
 
+ghost use Rattle.board_laws.specs.Points.{OfLegalHistories};
 ghost use Rattle.board_laws.specs.Effect.{CoalescedAndIgnoredChangeNoRequest, LapicsStayInPlace, StatusesWithoutEffectChangeNoRequest, PicPinsHaveTheirLines, IgnoredMaskedIsMasked};
 
 /// A law: a reply that is Coalesced or Ignored answers a call with targets, and says what stood there or the cause; every IRR
@@ -16,7 +17,7 @@ pub fn lapics_stay_in_place()
 /// A law: in each entry of a legal history a reply that is Coalesced or Ignored answers a call with targets, and says what
 /// stood there or the cause; every IRR is as before.
 pub fn statuses_without_effect_change_no_request()
-    ensures { StatusesWithoutEffectChangeNoRequest }
+    ensures { OfLegalHistories StatusesWithoutEffectChangeNoRequest }
 {}
 
 /// A law: each of the 16 pins of the 8259A pair is on the line of its own number.
@@ -27,7 +28,6 @@ pub fn pic_pins_have_their_lines()
 
 /// A law: in a legal history a reply that is Ignored for the cause Masked answers a call with a target whose pin was masked, by
 /// the IMR of its 8259A or by its redirection entry.
-#[tactic(auto, using(crate::proofs::EffectHistories::ignored_masked_is_masked))]
 pub fn ignored_masked_is_masked()
-    ensures { IgnoredMaskedIsMasked }
+    ensures { OfLegalHistories IgnoredMaskedIsMasked }
 {}

@@ -25,7 +25,7 @@ pub use bodies::{bodies_step, done_leads};
 pub use due::Due;
 pub use laws::{
     always_answers, answers_once, board_after_is_reached, calls_steadily, leads_to_one,
-    refused_rightly, refuses_first, steps_tell_few, words_stay,
+    refused_rightly, refuses_first, steps_are_followed, steps_tell_few, words_stay,
 };
 pub use open::OpenError;
 pub use publications::{
