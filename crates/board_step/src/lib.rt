@@ -29,8 +29,9 @@ pub use laws::{
 };
 pub use open::OpenError;
 pub use publications::{
-    histories_keep_the_frame, legal_histories_count, publications_reach_the_registry,
-    reach_is_there, steps_keep_the_frame, steps_show_publications,
+    histories_keep_the_frame, legal_histories_count, limits_are_told,
+    publications_reach_the_registry, reach_is_there, steps_keep_the_frame, steps_show_publications,
+    words_stay_along,
 };
 pub use reach::{depends_on_reach, reach_is_table, stays_outside_reach};
 pub use sound::{histories_keep_sound, opening_is_sound, steps_keep_sound};
