@@ -4,6 +4,7 @@ ghost use Rattle.turn_book.specs.Hands.{held_at, held_without, slot_at};
 ghost use Rattle.turn_book.specs.Views.{view_of, slots_of, IsLegal, HoldsRight, AddsNoneOfOwn, SamePlace};
 ghost use Rattle.turn_book.specs.Plays.{IsLastLook, LeadsOn, HoldsReach};
 ghost use Rattle.book_rows.specs.Counting.{Counted, caller_of, reach_of};
+ghost use Rattle.book_rows.specs.declared.machine.Counts.{Counts};
 
 use crate::machine::{Change, Counting};
 use std::marker::Brand;
