@@ -1,7 +1,7 @@
 //! The rows of watches.
 ghost use Rattle.std.specs.Prelude.{◌≡◌, [], ◌∷◌, ◌+◌, ◌<◌, ◌≤◌, ◌++◌, length, All, IfOk, OnOk, OnErr, vec_capacity};
 ghost use Rattle.arrayvec.specs.ArrayVec.{array_vec_len};
-ghost use Rattle.event_counter.specs.Counters.{signalled_all};
+ghost use Rattle.irq_base.specs.Counts.{signalled_all};
 ghost use Rattle.ack_notifiers.specs.Rows.{watch_answer, unwatch_answer, with_row, without_row, has_row, has_watch, has_counter, watched, watch_events};
 
 use irq_base::{Event, Events, NoMemory, Refusal, Status, Tally};

@@ -20,7 +20,7 @@ use Rattle.irq_base.specs.declared.shape.Shape.{Shape}
 use Rattle.event_counter.specs.Counters.{taken}
 use Rattle.irqfd_set.specs.declared.irqfds.Irqfd.{Irqfd}
 use Rattle.irqfd_set.specs.Rows.{has_trigger, is_named, named_row, with_row, without_row}
-use Rattle.route_table.specs.Sound.{no_reason}
+use Rattle.route_table.proofs.Sound.{no_reason}
 use Rattle.board_model.specs.Board.{Board}
 use Rattle.board_model.specs.Registry.{RegistryPart}
 use Rattle.board_model.specs.Routing.{Routing, routing_of_registry}

@@ -15,9 +15,9 @@ use Rattle.irq_base.specs.declared.shape.Shape.{Shape}
 use Rattle.pic_8259a.specs.Pair.{pin_outcome}
 use Rattle.ioapic_82093aa.specs.declared.ioapic.Raise.{Raise}
 use Rattle.ioapic_82093aa.specs.declared.ioapic.Raise.TheVariants as raises
-use Rattle.ioapic_82093aa.specs.Pins.{raise_of, accepted, entry_at, acknowledged, resend_of}
+use Rattle.ioapic_82093aa.specs.Pins.{raise_of, pin_accepted, entry_at, acknowledged, resend_of}
 use Rattle.msi_decode.specs.Messages.{message_in}
-use Rattle.event_counter.specs.Counters.{signalled_all}
+use Rattle.irq_base.specs.Counts.{signalled_all}
 use Rattle.resampler.specs.Resample.{resampled, resample_events}
 use Rattle.ack_notifiers.specs.Rows.{watched, watch_events}
 use Rattle.irqfd_set.specs.Rows.{has_resampler}
@@ -44,7 +44,7 @@ module _ (cpus : ℕ) where
       safe_put cpus parts.Pic (pic_raised b.pic pin source) (done (Some (pic_answer (pin_outcome (pair_of b.pic) pin true)))) refl (safe_done cpus (Some (pic_answer (pin_outcome (pair_of b.pic) pin true)))) b ws fine
 
   pub accept_pin_safe : (pin : ℕ) (b : Bool) → Safe cpus (accept_pin pin b)
-  accept_pin_safe pin true = λ b ws fine. safe_end cpus (with_part b parts.Ioapic (with_ioapic b.ioapic (accepted (ioapic_of b.ioapic) pin))) ws fine
+  accept_pin_safe pin true = λ b ws fine. safe_end cpus (with_part b parts.Ioapic (with_ioapic b.ioapic (pin_accepted (ioapic_of b.ioapic) pin))) ws fine
   accept_pin_safe pin false = safe_end cpus
 
   shown_safe : (about : About) (answer : Option TargetAnswer) → Safe cpus (answer_shown about answer)

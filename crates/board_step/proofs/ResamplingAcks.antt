@@ -14,7 +14,7 @@ use Rattle.irq_base.specs.declared.event.Pin.TheVariants as pins
 use Rattle.irq_base.specs.declared.message.Source.TheVariants.{Resample}
 use Rattle.irq_base.specs.declared.shape.Part.TheVariants as parts
 use Rattle.source_levels.specs.Holds.{Holds, hold}
-use Rattle.event_counter.specs.Counters.{signalled_all}
+use Rattle.irq_base.specs.Counts.{signalled_all}
 use Rattle.irqfd_set.specs.Rows.{has_resampler}
 use Rattle.resampler.specs.Resample.{resample_events}
 use Rattle.route_table.specs.Rows.{Table, is_same, targets_of}

@@ -24,7 +24,7 @@ use Rattle.lapic.specs.declared.outcome.Shorthand.{Shorthand}
 use Rattle.lapic.specs.Messages.{is_taken, accepted}
 use Rattle.msi_decode.specs.Messages.{message_in}
 use Rattle.source_levels.specs.Holds.{Hold, Holds, hold, hold_cmp}
-use Rattle.source_levels.specs.HoldLemmas.{hold_cmp_total, tied_same}
+use Rattle.source_levels.proofs.HoldLemmas.{hold_cmp_total, tied_same}
 use Rattle.board_model.specs.Registry.{RegistryPart}
 use Rattle.board_model.specs.Chips.{ioapic_of}
 use Rattle.board_model.specs.Board.{ValueOf, Board, part_of, with_part}

@@ -6,7 +6,7 @@ use Rattle.irq_base.specs.declared.event.Event.TheVariants.{Acked}
 use Rattle.irq_base.specs.declared.event.Pin.{Pin}
 use Rattle.irq_base.specs.declared.lists.Entry.{Entry}
 use Rattle.irq_base.specs.declared.shape.Shape.{Shape}
-use Rattle.event_counter.specs.Counters.{signalled_all}
+use Rattle.irq_base.specs.Counts.{signalled_all}
 use Rattle.irqfd_set.specs.Rows.{has_resampler}
 use Rattle.board_model.specs.Registry.{RegistryPart}
 use Rattle.board_model.specs.Board.{Board}

@@ -36,7 +36,7 @@ use Rattle.ioapic_82093aa.specs.Pins.{entry_at, raise_of}
 use Rattle.lapic.specs.Messages.{is_nmi, is_taken}
 use Rattle.msi_decode.specs.Messages.{message_in}
 use Rattle.source_levels.specs.Holds.{Holds, hold, is_high}
-use Rattle.event_counter.specs.Counters.{signalled_all}
+use Rattle.irq_base.specs.Counts.{signalled_all}
 use Rattle.irqfd_set.specs.Rows.{has_resampler}
 use Rattle.ioevent_set.specs.Rows.{rung_by}
 use Rattle.ack_notifiers.specs.Rows.{watch_events}

@@ -32,7 +32,7 @@ pub fn zeros(alloc: Global, count: usize) -> Result<Vec<u64>, NoMemory>
 }
 
 /// Makes words and pins stand for the rows, unless these are refused.
-#[tactic(auto, using(crate::specs::Filled::refill_rules))]
+#[tactic(auto, using(crate::proofs::Filled::refill_rules))]
 pub fn refill(
     words: &mut [u64],
     pics: &mut [u16],
@@ -105,7 +105,7 @@ fn add(words: &mut [u64], pics: &mut [u16], ioapics: &mut [u16], row: &Row) -> R
 }
 
 /// Where the word of a GSI sends it.
-#[tactic(auto, using(crate::specs::StandingLaws::past_rules))]
+#[tactic(auto, using(crate::proofs::StandingLaws::past_rules))]
 pub fn route_at(words: &[u64], gsi: u16) -> Targets
     ensures value { result ≡ route_at words.now gsi }
     ensures route { IsTrue (is_route result) }

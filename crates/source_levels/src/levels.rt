@@ -39,7 +39,7 @@ fn place_of(source: Source) -> u16
     }
 }
 
-#[tactic(auto, using(crate::specs::Flags::flag_rules))]
+#[tactic(auto, using(crate::proofs::FlagLaws::flag_rules))]
 impl<const N: usize> Levels<N> {
     /// No source holds a pin.
     pub fn none() -> Levels<N>

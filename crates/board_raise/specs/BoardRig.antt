@@ -6,11 +6,11 @@ use Rattle.board_model.specs.Published.{published}
 use Rattle.board_model.specs.Run.{Wishes}
 use Rattle.board_raise.specs.declared.parts.Parts.{Parts}
 use Rattle.board_raise.specs.declared.words.Words.{Words}
-use Rattle.board_raise.specs.declared.one.OneBoard.{OneBoard}
+use Rattle.board_raise.specs.declared.board_rig.BoardRig.{BoardRig}
 use Rattle.board_raise.specs.InHand.{registry_of}
 
 -- the rig with other parts
-abbrev pub with_parts : OneBoard → Parts → OneBoard
+abbrev pub with_parts : BoardRig → Parts → BoardRig
 with_parts r p = record r { parts = p }
 
 -- the words that a registry publishes

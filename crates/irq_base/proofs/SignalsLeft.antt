@@ -1,8 +1,7 @@
 -- A loop that signals counters one after another, with an event for each: what is done and what is left.
 use Rattle.std.proofs.Common.{◌≡◌, ℕ, ◌+◌, ◌-◌, ◌^◌, ◌<◌, ◌≤◌, List, [], ◌∷◌, ◌++◌, length, map, min, slice_index, All, sym, ◌∙◌, arith, length-set, length-append, append_assoc}
 use Rattle.std.proofs.lemmas.List.Elements.{All-head, All-tail}
-use Rattle.irq_base.specs.Counts.{signalled}
-use Rattle.event_counter.specs.Counters.{signalled_all}
+use Rattle.irq_base.specs.Counts.{signalled, signalled_all}
 
 -- what is done by now, and then the signals that are left, are all the signals over the first counts, with their events
 pub record SignalsLeft {X : Type 0} (event : ℕ → X) (first counts : List ℕ) (before events : List X) (all left : List ℕ) : Type 0 where

@@ -12,9 +12,9 @@ use Rattle.irq_base.specs.declared.call.Row.{Row}
 use Rattle.irq_base.specs.declared.message.Targets.{Targets}
 use Rattle.route_table.specs.Words.{no_targets}
 use Rattle.route_table.specs.Rows.{Table, gsi_in, is_same, has_target, targets_by, table_below, table_of, targets_of, first_given}
-use Rattle.route_table.specs.RowLaws.{first_given-row}
-use Rattle.route_table.specs.Pins.{owner}
-use Rattle.route_table.specs.Sound.{Sound, Gives, Owns, owner-row}
+use Rattle.route_table.proofs.RowLaws.{first_given-row}
+use Rattle.route_table.specs.Pins.{gsi_told, owner}
+use Rattle.route_table.proofs.Sound.{Sound, Gives, Owns, owner-row}
 use Rattle.route_table.specs.Standing.{route_at, Stands}
 use Rattle.route_table.specs.Tables.{table_in}
 
@@ -170,10 +170,6 @@ key_of table gsi e =
       | None ↦ λ none. none
       | Some t ↦ λ _. refl
     ] e
-
--- the GSI that the word of a pin tells
-abbrev pub gsi_told : ℕ → Option ℕ
-gsi_told v = if nat_eq v 0 then None else Some (v - 1)
 
 module _ (pick : Targets → Option ℕ) (f : Row → Option ℕ) (picks : (rows : List Row) (gsi : ℕ) → pick (targets_by rows gsi) ≡ first_given f gsi rows) (none : pick no_targets ≡ None) (some : (t : Targets) (n : ℕ) → pick t ≡ Some n → has_target t ≡ true) where
   pub one_owner : (rows : List Row) → Owns f rows → (n gsi : ℕ) → is_same (pick (targets_of (table_of rows) gsi)) (Some n) ≡ true → owner f n rows ≡ gsi + 1

@@ -15,7 +15,7 @@ use irq_bits::CpuSet;
 /// A rig over parts of its own. It answers the published words from the registry that was published last, which no write to
 /// the lent parts changes, so it is never astray.
 #[derive(Drop)]
-pub struct OneBoard {
+pub struct BoardRig {
     parts: Parts,
     words: Words,
     /// What the next sending is to choose.
@@ -44,14 +44,14 @@ fn has_part(parts: &Parts, part: Part) -> bool
     }
 }
 
-impl OneBoard {
+impl BoardRig {
     /// A rig over these parts, whose board published these words. It wishes for nothing.
-    pub fn new(parts: Parts, words: Words) -> OneBoard
+    pub fn new(parts: Parts, words: Words) -> BoardRig
         ensures parts { result.parts ≡ parts }
         ensures words { result.words ≡ words }
         ensures wish { result.wish ≡ None }
     {
-        OneBoard {
+        BoardRig {
             parts,
             words,
             wish: None,
@@ -76,9 +76,9 @@ impl OneBoard {
     }
 }
 
-impl Rig for OneBoard {
-    ghost use Rattle.std.specs.Prelude.{◌≡◌, false, refl};
-    ghost use Rattle.board_raise.specs.OneBoard.{with_parts, words_in, wishes_of};
+impl Rig for BoardRig {
+    ghost use Rattle.std.specs.Prelude.{◌≡◌, false, [], refl};
+    ghost use Rattle.board_raise.specs.BoardRig.{with_parts, words_in, wishes_of};
 
     ghost held = { λ r. r.parts };
 
@@ -87,6 +87,8 @@ impl Rig for OneBoard {
     ghost astray = { λ _. false };
 
     ghost wishes = { λ r. wishes_of r.wish };
+
+    ghost noted = { λ _. [] };
 
     ghost with_held = { with_parts };
 
@@ -97,6 +99,8 @@ impl Rig for OneBoard {
     ghost wishes_with = { λ r p. refl };
 
     ghost astray_with = { λ r p. refl };
+
+    ghost noted_with = { λ r p. refl };
 
     fn parts(&mut self) -> &mut Parts {
         &mut self.parts

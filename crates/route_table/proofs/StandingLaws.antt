@@ -13,11 +13,11 @@ use Rattle.irq_base.specs.declared.message.MsiWord.{MsiWord}
 use Rattle.irq_base.specs.declared.message.Targets.{Targets}
 use Rattle.irq_base.specs.declared.refusal.Refusal.TheVariants.{NoGsi, BadRow, ChipTwice, Mixed, PinTwice, BadMsi}
 use Rattle.route_table.specs.Words.{no_targets, is_below, is_route, is_route_of, targets_in}
-use Rattle.route_table.specs.WordLaws.{targets_in-route, targets_in-encoded}
+use Rattle.route_table.proofs.WordLaws.{targets_in-route, targets_in-encoded}
 use Rattle.route_table.specs.Rows.{gsi_in, pic_in, ioapic_in, msi_in, is_of, is_same, is_good_if, are_both, is_of_same_chip, has_message, is_same_pin, row_reasons, has_target, targets_by, first_given}
-use Rattle.route_table.specs.RowLaws.{first_given-snoc, is_some-first_given, or_none}
+use Rattle.route_table.proofs.RowLaws.{first_given-snoc, is_some-first_given, or_none}
 use Rattle.route_table.specs.Pins.{owner}
-use Rattle.route_table.specs.Sound.{Kept, owner-snoc, owner-any, free_pin, or_on}
+use Rattle.route_table.proofs.Sound.{Kept, owner-snoc, owner-any, free_pin, or_on}
 use Rattle.route_table.specs.Standing.{named_in, joined, route_at, is_taken, with_owner, fits_if, reasons_by, reasons_at, word_with, Stands}
 
 -- past the end there is no target

@@ -7,7 +7,7 @@ use Rattle.irq_bits.specs.Members.{Numbers, is_set, is_set_in, rows_of, row_of, 
 use Rattle.irq_bits.specs.SetLemmas.{contains-set_below_within, set_below-insert, set_below-remove, set_below-empty, least_of, greatest_of, greatest_vector-is, greatest_vector-empty, not_in_empty}
 use Rattle.irq_bits.specs.WordLemmas.{lowest_set, is_set_top, clear_above_top}
 use Rattle.irq_bits.specs.InverseLemmas.{number_of-bits, mod_small}
-use Rattle.irq_bits.specs.RowLemmas.{is_set_in-zeros, is_set_in-insert, is_set_in-remove, is_set_in-place, lowest_in, highest_in, none_in}
+use Rattle.irq_bits.proofs.RowLemmas.{is_set_in-zeros, is_set_in-insert, is_set_in-remove, is_set_in-place, lowest_in, highest_in, none_in}
 
 -- no bit is set
 pub rows-empty : rows_of (0 ∷ 0 ∷ 0 ∷ 0 ∷ 0 ∷ 0 ∷ 0 ∷ 0 ∷ []) ≡ members.empty

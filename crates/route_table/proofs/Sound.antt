@@ -12,7 +12,7 @@ use Rattle.irq_base.specs.declared.call.Row.{Row}
 use Rattle.irq_base.specs.declared.refusal.Refusal.{Refusal}
 use Rattle.irq_base.specs.declared.refusal.Refusal.TheVariants.{NoGsi, BadRow, ChipTwice, Mixed, PinTwice, Full, BadMsi}
 use Rattle.route_table.specs.Rows.{gsi_in, pic_in, ioapic_in, msi_in, is_of, is_same, is_good_if, are_both, is_of_same_chip, has_message, is_same_pin, row_reasons, reasons_after, refusal_of, first_given}
-use Rattle.route_table.specs.RowLaws.{Contains-one, first_given-snoc, first_given-row}
+use Rattle.route_table.proofs.RowLaws.{Contains-one, first_given-snoc, first_given-row}
 use Rattle.route_table.specs.Words.{is_below}
 use Rattle.route_table.specs.Pins.{owner}
 

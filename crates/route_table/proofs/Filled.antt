@@ -4,19 +4,19 @@ use Rattle.std.proofs.lemmas.Bool.Decides.{eqb_tells, leb_tells}
 use Rattle.std.specs.Prelude.{slice_index, IsTrue}
 use Rattle.std.specs.Option.{is_some}
 use Rattle.std.specs.declared.option.Option.{Option}
-use Rattle.route_table.specs.Sound.{or_on}
+use Rattle.route_table.proofs.Sound.{or_on}
 use Rattle.std.proofs.lemmas.List.{get_or-replicate, get_or_past, length-replicate}
 use Rattle.irq_base.specs.declared.call.Row.{Row}
 use Rattle.irq_base.specs.declared.event.Pin.TheVariants.{Pic, Ioapic}
 use Rattle.irq_base.specs.declared.message.Targets.{Targets}
 use Rattle.route_table.specs.Words.{is_route, targets_in}
-use Rattle.route_table.specs.WordLaws.{targets_in-route}
+use Rattle.route_table.proofs.WordLaws.{targets_in-route}
 use Rattle.route_table.specs.Rows.{reasons_after, gsi_in, pic_in, ioapic_in, has_target, first_given, refusal_of, table_of, targets_of}
-use Rattle.route_table.specs.Pins.{owner, gsi_of}
-use Rattle.route_table.specs.Sound.{Sound, sound_of, owner-row}
+use Rattle.route_table.specs.Pins.{owner, gsi_of, gsi_told}
+use Rattle.route_table.proofs.Sound.{Sound, sound_of, owner-row}
 use Rattle.route_table.specs.Standing.{Stands}
 use Rattle.route_table.specs.Tables.{table_in, IsTable}
-use Rattle.route_table.specs.TableLaws.{table_in-rows, targets_of-words, targets_past-words, gsi_told, gsi_found}
+use Rattle.route_table.proofs.TableLaws.{table_in-rows, targets_of-words, targets_past-words, gsi_found}
 
 -- words and pins of 0 stand for no rows
 pub stands_none : (words pics ioapics : List ℕ) → ((k : ℕ) → get_or words k 0 ≡ 0) → ((n : ℕ) → get_or pics n 0 ≡ 0) → ((n : ℕ) → get_or ioapics n 0 ≡ 0) → Stands words pics ioapics []

@@ -6,7 +6,8 @@ use Rattle.std.specs.declared.option.Option.{Option}
 use borrow.Author.Tests.{ltb-true}
 use Rattle.irq_base.specs.declared.message.MsiWord.{MsiWord}
 use Rattle.irq_base.specs.declared.message.Targets.{Targets}
-use Rattle.route_table.specs.Words.{no_targets, is_route, is_route_of, is_good, pin_named, bits_of_targets, target_bits, word_of, pins_in, message_in, of_kind, named_by, is_marked, bits_at, is_word_of, given_where, targets_in}
+use Rattle.irq_bits.specs.Fields.{bits_of}
+use Rattle.route_table.specs.Words.{no_targets, is_route, is_route_of, is_good, pin_named, bits_of_targets, target_bits, targets_word, pins_in, message_in, of_kind, named_by, is_marked, is_word_of, given_where, targets_in}
 
 -- ---- the fields of a word
 
@@ -16,31 +17,31 @@ pins_word x a n b k = x * 2 ^ 63 + (1 + (a + n * 2) * 2 ^ 2 + (b + k * 2) * 2 ^ 
 abbrev message_word : ℕ → ℕ → ℕ → ℕ
 message_word x address payload = x * 2 ^ 63 + (2 + address * 2 ^ 2 + payload * 2 ^ 22)
 
-pins_kind : (x a n b k : ℕ) → bits_at (pins_word x a n b k) 1 0 ≡ 1
+pins_kind : (x a n b k : ℕ) → bits_of (pins_word x a n b k) 1 0 ≡ 1
 pins_kind x a n b k = omega arith
 
-pic_there : (x a n b k : ℕ) → a < 2 → bits_at (pins_word x a n b k) 2 2 ≡ a
+pic_there : (x a n b k : ℕ) → a < 2 → bits_of (pins_word x a n b k) 2 2 ≡ a
 pic_there x a n b k p = omega arith
 
-pic_number : (x a n b k : ℕ) → a < 2 → n < 16 → bits_at (pins_word x a n b k) 6 3 ≡ n
+pic_number : (x a n b k : ℕ) → a < 2 → n < 16 → bits_of (pins_word x a n b k) 6 3 ≡ n
 pic_number x a n b k p q = omega arith
 
-ioapic_there : (x a n b k : ℕ) → a < 2 → n < 16 → b < 2 → bits_at (pins_word x a n b k) 7 7 ≡ b
+ioapic_there : (x a n b k : ℕ) → a < 2 → n < 16 → b < 2 → bits_of (pins_word x a n b k) 7 7 ≡ b
 ioapic_there x a n b k p q r = omega arith
 
-ioapic_number : (x a n b k : ℕ) → a < 2 → n < 16 → b < 2 → k < 32 → bits_at (pins_word x a n b k) 12 8 ≡ k
+ioapic_number : (x a n b k : ℕ) → a < 2 → n < 16 → b < 2 → k < 32 → bits_of (pins_word x a n b k) 12 8 ≡ k
 ioapic_number x a n b k p q r s = omega arith
 
-message_kind : (x address payload : ℕ) → bits_at (message_word x address payload) 1 0 ≡ 2
+message_kind : (x address payload : ℕ) → bits_of (message_word x address payload) 1 0 ≡ 2
 message_kind x address payload = omega arith
 
-message_address : (x address payload : ℕ) → address < 2 ^ 20 → bits_at (message_word x address payload) 21 2 ≡ address
+message_address : (x address payload : ℕ) → address < 2 ^ 20 → bits_of (message_word x address payload) 21 2 ≡ address
 message_address x address payload p = omega arith
 
-message_payload : (x address payload : ℕ) → address < 2 ^ 20 → payload < 2 ^ 32 → bits_at (message_word x address payload) 53 22 ≡ payload
+message_payload : (x address payload : ℕ) → address < 2 ^ 20 → payload < 2 ^ 32 → bits_of (message_word x address payload) 53 22 ≡ payload
 message_payload x address payload p q = omega arith
 
-mark_bit : (x rest : ℕ) → x < 2 → rest < 2 ^ 63 → bits_at (x * 2 ^ 63 + rest) 63 63 ≡ x
+mark_bit : (x rest : ℕ) → x < 2 → rest < 2 ^ 63 → bits_of (x * 2 ^ 63 + rest) 63 63 ≡ x
 mark_bit x rest p q = omega arith
 
 -- ---- a word names the targets of which it is made
@@ -54,7 +55,7 @@ pins_back x a n b k p q r s =
       msi = None;
     })
   where
-    pins_named : (w : ℕ) → bits_at w 1 0 ≡ 1 → named_by w ≡ record { pic = pin_named (bits_at w 2 2) (bits_at w 6 3); ioapic = pin_named (bits_at w 7 7) (bits_at w 12 8); msi = None }
+    pins_named : (w : ℕ) → bits_of w 1 0 ≡ 1 → named_by w ≡ record { pic = pin_named (bits_of w 2 2) (bits_of w 6 3); ioapic = pin_named (bits_of w 7 7) (bits_of w 12 8); msi = None }
     pins_named w kind = ap (λ k. of_kind k (pins_in w) (message_in w)) kind
 
 message_back : (x address payload : ℕ) → address < 2 ^ 20 → payload < 2 ^ 32 → named_by (message_word x address payload) ≡ record { pic = None; ioapic = None; msi = Some (record { address = 0xfee00000 + address; payload = payload }) }
@@ -62,7 +63,7 @@ message_back x address payload p q =
     message_named (message_word x address payload) (message_kind x address payload)
     ∙ (λ i. record { pic = None; ioapic = None; msi = Some (record { address = 0xfee00000 + message_address x address payload p i; payload = message_payload x address payload p q i }) })
   where
-    message_named : (w : ℕ) → bits_at w 1 0 ≡ 2 → named_by w ≡ record { pic = None; ioapic = None; msi = Some (record { address = 0xfee00000 + bits_at w 21 2; payload = bits_at w 53 22 }) }
+    message_named : (w : ℕ) → bits_of w 1 0 ≡ 2 → named_by w ≡ record { pic = None; ioapic = None; msi = Some (record { address = 0xfee00000 + bits_of w 21 2; payload = bits_of w 53 22 }) }
     message_named w kind = ap (λ k. of_kind k (pins_in w) (message_in w)) kind
 
 mark_number : Bool → ℕ
@@ -91,7 +92,7 @@ good_payload : (m : MsiWord) → is_good m ≡ true → m.payload < 2 ^ 32
 good_payload m good = ltb-true m.payload (2 ^ 32) (second_so _ _ good)
 
 named_back : (pic ioapic : Option ℕ) (msi : Option MsiWord) (x : ℕ) → is_route_of pic ioapic msi ≡ true → named_by (x * 2 ^ 63 + bits_of_targets pic ioapic msi) ≡ record { pic = pic; ioapic = ioapic; msi = msi }
-named_back None None None x route = let none : bits_at (x * 2 ^ 63 + 0) 1 0 ≡ 0 = omega arith in ap (λ k. of_kind k (pins_in (x * 2 ^ 63 + 0)) (message_in (x * 2 ^ 63 + 0))) none
+named_back None None None x route = let none : bits_of (x * 2 ^ 63 + 0) 1 0 ≡ 0 = omega arith in ap (λ k. of_kind k (pins_in (x * 2 ^ 63 + 0)) (message_in (x * 2 ^ 63 + 0))) none
 named_back (Some n) None None x route = pins_back x 1 n 0 0 (omega arith) (ltb-true n 16 (first_so _ _ route)) (omega arith) (omega arith)
 named_back None (Some k) None x route = let low : k < 24 = ltb-true k 24 route in pins_back x 0 0 1 k (omega arith) (omega arith) (omega arith) (omega (arith, low))
 named_back (Some n) (Some k) None x route = let low : k < 24 = ltb-true k 24 (second_so _ _ route) in pins_back x 1 n 1 k (omega arith) (ltb-true n 16 (first_so _ _ route)) (omega arith) (omega (arith, low))
@@ -108,10 +109,10 @@ small_bits None None (Some m) route = let low : m.payload < 2 ^ 32 = good_payloa
 small_bits (Some n) ioapic (Some m) route = cc
 small_bits None (Some k) (Some m) route = cc
 
-named_back_of : (t : Targets) (m : Bool) → is_route t ≡ true → named_by (word_of t m) ≡ t
+named_back_of : (t : Targets) (m : Bool) → is_route t ≡ true → named_by (targets_word t m) ≡ t
 named_back_of t m route = ap (λ mark. named_by (mark + target_bits t)) (mark_is m) ∙ named_back t.pic t.ioapic t.msi (mark_number m) route
 
-marked_back_of : (t : Targets) (m : Bool) → is_route t ≡ true → is_marked (word_of t m) ≡ m
+marked_back_of : (t : Targets) (m : Bool) → is_route t ≡ true → is_marked (targets_word t m) ≡ m
 marked_back_of t m route =
     ap (λ mark. is_marked (mark + target_bits t)) (mark_is m)
     ∙ ap (λ x. nat_eq x 1) (mark_bit (mark_number m) (target_bits t) (mark_small m) (small_bits t.pic t.ioapic t.msi route))
@@ -127,19 +128,19 @@ targets_in-route word = routed (is_word_of word (named_by word) (is_marked word)
     routed true t m route = route refl
     routed false t m route = refl
 
-pub targets_in-encoded : (word : ℕ) (t : Targets) (m : Bool) → IsTrue (is_route t) → word ≡ word_of t m → targets_in word ≡ (t, m)
+pub targets_in-encoded : (word : ℕ) (t : Targets) (m : Bool) → IsTrue (is_route t) → word ≡ targets_word t m → targets_in word ≡ (t, m)
 unfolding targets_in
 targets_in-encoded word t m route e =
     let named : named_by word ≡ t = ap named_by e ∙ named_back_of t m route in
     let mark : is_marked word ≡ m = ap is_marked e ∙ marked_back_of t m route in
-    let same : nat_eq (word_of t m) word ≡ true = (unsigned_Decides (word_of t m) word).1 (sym e) in
+    let same : nat_eq (targets_word t m) word ≡ true = (unsigned_Decides (targets_word t m) word).1 (sym e) in
     (λ i. given_where (is_word_of word (named i) (mark i)) (named i) (mark i))
     ∙ (λ i. given_where (route i && same i) t m)
 
-pub targets_in-other : (word : ℕ) → ((t : Targets) (m : Bool) → IsTrue (is_route t) → word ≢ word_of t m) → targets_in word ≡ (no_targets, false)
+pub targets_in-other : (word : ℕ) → ((t : Targets) (m : Bool) → IsTrue (is_route t) → word ≢ targets_word t m) → targets_in word ≡ (no_targets, false)
 unfolding targets_in
 targets_in-other word none = other (is_word_of word (named_by word) (is_marked word)) (named_by word) (is_marked word)
-    (λ e. none (named_by word) (is_marked word) (first_so _ _ e) (sym ((unsigned_Decides (word_of (named_by word) (is_marked word)) word).0 (second_so _ _ e))))
+    (λ e. none (named_by word) (is_marked word) (first_so _ _ e) (sym ((unsigned_Decides (targets_word (named_by word) (is_marked word)) word).0 (second_so _ _ e))))
   where
     other : (b : Bool) (t : Targets) (m : Bool) → (b ≡ true → ⊥) → given_where b t m ≡ (no_targets, false)
     other true t m never = absurd (never refl)
