@@ -20,11 +20,11 @@
 //!   `last_look`). Each note of that generation has the published value (`right`), and with the registry held the pen
 //!   knows the generation (`knows`).
 //! - **A turn is won or found taken**: `TurnBook::take` answers `Got`, and the pen holds the part as the history has it
-//!   (`got`, `held`, `took`), or `Found`, exactly where the swap found the turn taken, and nothing but the list of turns
+//!   (`got`, `held`, `just`, `took`), or `Found`, exactly where the swap found the turn taken, and nothing but the list of turns
 //!   found taken changed (`found`, `lost`).
 //! - **The part in hand is lent**: `part_of` and `TurnBook::lend` (`value`, `writes_back`), whatever the order in which the
 //!   parts were taken; no other part in hand changes (the lemma `slot_lent`).
-//! - **The part that goes home is the one that the history has**: `TurnBook::give` (`home`; `view`, `held`, `gone`,
+//! - **The part that goes home is the one that the history has**: `TurnBook::give` (`home`; `view`, `just`, `gone`,
 //!   `slots`). With the registry go the drafts and the generation known (`view`).
 //! - **Several parts at once**: `TurnBook::take_all` takes each or none (`held`, `same`, `took`, `found`, `until`), and
 //!   `TurnBook::give_all` gives each (`view`, `bare`).

@@ -60,7 +60,8 @@ impl<M: Machine> TurnBook<M> {
         requires free { is_some (held_at part (view_of pen.old.seat).held) ≡ false }
         ensures book { pen.new.seat.table_id ≡ pen.old.seat.table_id }
         ensures got { result ≡ Took.Got → IfSome (held_at part (view_of pen.new.seat).held) (λ x. ((view_of pen.new.seat).held ≡ record { part = part; value = x } ∷ (view_of pen.old.seat).held) × (slots_of pen.new.seat ≡ (part, x) ∷ slots_of pen.old.seat) × IsAsHistoryHas (workings M.opens M.steps M.parts M.published M.caller M.is_publication) (view_of pen.old.seat) part x) }
-        ensures held { result ≡ Took.Got → (q : ℕ) → is_some (held_at q (view_of pen.new.seat).held) ≡ (nat_eq part q || is_some (held_at q (view_of pen.old.seat).held)) }
+        ensures held { result ≡ Took.Got → is_some (held_at part (view_of pen.new.seat).held) ≡ true }
+        ensures just { result ≡ Took.Got → (q : ℕ) → is_some (held_at q (view_of pen.new.seat).held) ≡ (nat_eq part q || is_some (held_at q (view_of pen.old.seat).held)) }
         ensures home { AreHome (view_of pen.old.seat).held (slots_of pen.old.seat) → AreHome (view_of pen.new.seat).held (slots_of pen.new.seat) }
         ensures took { result ≡ Took.Got → ((view_of pen.new.seat).took ≡ (view_of pen.old.seat).took ++ part ∷ []) × ((view_of pen.new.seat).found ≡ (view_of pen.old.seat).found) }
         ensures found { result ≡ Took.Found → ((view_of pen.new.seat).found ≡ (view_of pen.old.seat).found ++ part ∷ []) × ((view_of pen.new.seat).took ≡ (view_of pen.old.seat).took) }
@@ -87,7 +88,7 @@ impl<M: Machine> TurnBook<M> {
         requires home { slot_at part (slots_of pen.old.seat) ≡ held_at part (view_of pen.old.seat).held }
         ensures book { pen.new.seat.table_id ≡ pen.old.seat.table_id }
         ensures view { view_of pen.new.seat ≡ given_view part (view_of pen.old.seat) }
-        ensures held { (q : ℕ) → is_some (held_at q (view_of pen.new.seat).held) ≡ (is_some (held_at q (view_of pen.old.seat).held) && not (nat_eq part q)) }
+        ensures just { (q : ℕ) → is_some (held_at q (view_of pen.new.seat).held) ≡ (is_some (held_at q (view_of pen.old.seat).held) && not (nat_eq part q)) }
         ensures home { AreHome (view_of pen.old.seat).held (slots_of pen.old.seat) → AreHome (view_of pen.new.seat).held (slots_of pen.new.seat) }
         ensures gone { slot_at part (slots_of pen.new.seat) ≡ None }
         ensures slots { (q : ℕ) → nat_eq part q ≡ false → slot_at q (slots_of pen.new.seat) ≡ slot_at q (slots_of pen.old.seat) }

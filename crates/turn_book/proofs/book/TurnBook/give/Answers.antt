@@ -80,8 +80,8 @@ returns-clause-slots g c = λ q t.
     let r = rest-brought p cs x pen.distinct is in
     ap (slot_at q) (c.store.ensures.2.1 ∙ ap (λ me. rest me.1) c.bring.ensures.2) ∙ r.2 q t
 
-pub returns-clause-held : goal.returns-clause-held
-returns-clause-held g c = λ q.
+pub returns-clause-just : goal.returns-clause-just
+returns-clause-just g c = λ q.
     let pen = c.args.pen.now in
     let v = pen.seat.me.0 in
     let p = c.args.part in
