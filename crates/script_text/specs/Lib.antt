@@ -2,3 +2,8 @@ pub mod Causes
 pub mod Words
 pub mod Numbers
 pub mod Commands
+pub mod Scripts
+pub mod Asks
+pub mod Index
+pub mod Draft
+pub mod Faults

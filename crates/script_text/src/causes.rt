@@ -1,5 +1,5 @@
 //! Causes of bad lines, in their order.
-ghost use Rattle.std.specs.Prelude.{◌≡◌, Ok};
+ghost use Rattle.std.specs.Prelude.{◌≡◌, Ok, IfOk};
 ghost use Rattle.std.specs.declared.result.Result.{Result};
 ghost use Rattle.irq_base.specs.declared.fault.LineCause.{LineCause};
 ghost use Rattle.script_text.specs.Causes.{order_of, first_of, both, all_three, all_five, Says};
@@ -76,7 +76,8 @@ pub fn all_five<A: Drop, B: Drop, C: Drop, D: Drop, E: Drop>(
 
 // Both fields, the second of which takes memory.
 pub fn both_in_memory<A: Drop, B: Drop>(a: Result<A, LineCause>, b: Result<B, LineFault>) -> Result<(A, B), LineFault>
-    ensures { (read : Result B LineCause) → Says b read → Says result (both a read) }
+    ensures value { (read : Result B LineCause) → Says b read → Says result (both a read) }
+    ensures fields { IfOk result (λ w. (a ≡ Ok w.0) × (b ≡ Ok w.1)) }
 {
     match (a, b) {
         (_, Err(LineFault::NoMemory)) => Err(LineFault::NoMemory),

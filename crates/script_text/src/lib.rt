@@ -3,13 +3,18 @@
 
 mod causes;
 mod commands;
-// mod naming;
+mod draft;
+mod judging;
+mod naming;
 mod numbers;
+mod progress;
 mod rows;
+mod script;
 mod task;
 mod words;
 
 pub use causes::LineFault;
 pub use commands::command;
-// pub use naming::actor_line;
+pub use script::{ScriptFault, draft_of};
+pub use progress::{Phase, Progress};
 pub use task::{ActorLine, Task};
