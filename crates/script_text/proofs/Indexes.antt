@@ -20,15 +20,15 @@ same-seat (Cpu a) (Device b) = grind (arith, nat_tests)
 same-seat (Cpu a) (Cpu b) = grind (arith, nat_tests)
 
 -- the places of a line and of those behind it
-abbrev placed : Bool → ℕ → List ℕ → List ℕ
+abbrev pub placed : Bool → ℕ → List ℕ → List ℕ
 placed b k places = if b then k ∷ places else places
 
-places-first : (k seat : ℕ) (line : ActorLine) (lines : List ActorLine) →
+pub places-first : (k seat : ℕ) (line : ActorLine) (lines : List ActorLine) →
     places_from k seat (line ∷ lines) ≡ placed (nat_eq (seat_of line.caller) seat) k (places_from (k + 1) seat lines)
 unfolding places_from
 places-first k seat line lines = refl
 
-places-none : (k seat : ℕ) → places_from k seat [] ≡ []
+pub places-none : (k seat : ℕ) → places_from k seat [] ≡ []
 unfolding places_from
 places-none k seat = refl
 

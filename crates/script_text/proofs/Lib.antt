@@ -5,3 +5,6 @@ mod Fields
 mod LineCuts
 mod Indexes
 mod Readings
+mod Tasks
+mod Asked
+mod Texts

@@ -1,5 +1,5 @@
 -- What an actor of a script asks, by the replies that it gets.
-use Rattle.std.specs.Prelude.{◌≡◌, ℕ, zero, suc, ◌+◌, ◌-◌, Bool, false, not, nat_eq, List, [], ◌∷◌, map, filter, fold, drop, Some, None}
+use Rattle.std.specs.Prelude.{◌≡◌, ℕ, zero, suc, ◌+◌, ◌-◌, Bool, false, not, nat_eq, List, [], ◌∷◌, map, filter, fold, drop, slice_index_or, Some, None}
 use Rattle.std.specs.declared.option.Option.{Option}
 use Rattle.irq_base.specs.declared.call.Call.{Call}
 use Rattle.irq_base.specs.declared.call.Call.TheVariants.{PortOut, Ack, Eoi}
@@ -23,6 +23,10 @@ same_caller _ _ = false
 unfoldable pub actors_of : List ActorLine → List Caller
 actors_of [] = []
 actors_of (line ∷ lines) = line.caller ∷ filter (λ c. not (same_caller c line.caller)) (actors_of lines)
+
+-- the actor with this number, from 0
+abbrev pub caller_at : List ActorLine → ℕ → Caller
+caller_at lines actor = slice_index_or (actors_of lines) actor (Device 0)
 
 -- what the lines of an actor ask
 unfoldable pub tasks_of : Caller → List ActorLine → List Task
@@ -104,6 +108,11 @@ rest_of_lines (t ∷ ts) p = rest_of_line t p.done p.phase (unrolled ts)
 
 abbrev pub left_at : List Task → Progress → Asks
 left_at tasks p = rest_of_lines (drop p.line tasks) p
+
+-- the same line, or what stands behind it where it is done
+abbrev pub goes_on : Task → Asks → Option (ℕ × Phase) → Asks
+goes_on t rest None = rest
+goes_on t rest (Some place) = rest_of_line t place.0 place.1 rest
 
 -- this progress followed these replies to the calls of an actor: what it leaves is what the actor still asks
 abbrev pub HasFollowed : Caller → List ActorLine → List Reply → Progress → Type 0

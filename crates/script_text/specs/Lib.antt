@@ -7,3 +7,5 @@ pub mod Asks
 pub mod Index
 pub mod Draft
 pub mod Faults
+pub mod Answers
+pub mod Spelling

@@ -1,11 +1,12 @@
 //! A script while it is read.
-ghost use Rattle.std.specs.Prelude.{◌≡◌, ℕ, ◌<◌, ◌∷◌, ◌++◌, [], length, if◌then◌else◌, OnOk};
+ghost use Rattle.std.specs.Prelude.{◌≡◌, ℕ, ◌+◌, ◌<◌, ◌^◌, ◌∷◌, ◌++◌, [], length, map, drop, slice_get, All, if◌then◌else◌, Some, OnOk, IfSome, MatchOption};
+ghost use Rattle.script_text.specs.Asks.{tasks_of};
 ghost use Rattle.script_text.specs.Words.{is_empty};
 ghost use Rattle.script_text.specs.Index.{IsCounted, seat_of, places_in, with_place};
 ghost use Rattle.script_text.specs.Draft.{script_in, IsIndexedDraft, added};
 ghost use Rattle.script_text.specs.Scripts.{blank_script};
 
-use crate::task::ActorLine;
+use crate::task::{ActorLine, Task};
 use irq_base::{Caller, Items, NoMemory, Shape};
 use std::alloc::Global;
 
@@ -93,6 +94,32 @@ fn enlist(actors: &mut Vec<Caller>, is_new: bool, caller: Caller) -> Result<(), 
     }
 }
 
+// The k-th place of a seat.
+fn place_in(seats: &[Items<usize>], seat: usize, k: usize) -> Option<usize>
+    ensures value { result ≡ slice_get (places_in seats.now seat) k }
+    ensures below { IfSome result (λ _. k + 1 < 2 ^ 64) }
+{
+    match seats.get(seat) {
+        Some(places) => {
+            if k < places.len() {
+                Some(*places.at(k))
+            } else {
+                None
+            }
+        }
+        None => None,
+    }
+}
+
+// What the line at a place asks.
+fn task_in(lines: &[ActorLine], place: usize) -> &Task
+    requires { place < length lines.now }
+    ensures at { slice_get (map (λ line. line.task) lines.now) place ≡ Some result.now }
+    ensures counted { All (λ line. IsCounted line.task) lines.now → IsCounted result.now }
+{
+    &lines[place].task
+}
+
 // Puts a line behind the others.
 fn append(lines: &mut Vec<ActorLine>, line: ActorLine) -> Result<(), NoMemory>
     ensures { OnOk result (lines.new.items ≡ lines.old.items ++ line ∷ []) }
@@ -120,5 +147,21 @@ impl Draft {
             return Err(fault);
         }
         append(&mut self.lines, line)
+    }
+
+    // What the k-th line of a caller asks, from 0.
+    pub fn task(&self, caller: Caller, k: usize) -> Option<&Task>
+        requires { IsIndexedDraft self.now }
+        ensures at {
+            let tasks = tasks_of caller self.now.lines.items in
+            MatchOption result (drop k tasks ≡ []) (λ t. drop k tasks ≡ t.now ∷ drop (k + 1) tasks)
+        }
+        ensures counted { IfSome result (λ t. IsCounted t.now) }
+        ensures below { IfSome result (λ _. k + 1 < 2 ^ 64) }
+    {
+        match place_in(self.seats.as_slice(), seat_of(caller), k) {
+            None => None,
+            Some(place) => Some(task_in(self.lines.as_slice(), place)),
+        }
     }
 }

@@ -10,11 +10,13 @@ mod numbers;
 mod progress;
 mod rows;
 mod script;
+mod spelling;
 mod task;
 mod words;
 
 pub use causes::LineFault;
 pub use commands::command;
-pub use script::{ScriptFault, draft_of};
+pub use script::{Script, ScriptFault, parse};
 pub use progress::{Phase, Progress};
+pub use spelling::push_call;
 pub use task::{ActorLine, Task};
