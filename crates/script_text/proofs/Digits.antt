@@ -73,4 +73,3 @@ hex_places-first k n some h =
     sym (ap (λ m. hex_places m n) e ∙ hex_places-step (k - 1) n ∙ ap (λ b. if b then hex_places (k - 1) n else suc (k - 1)) h ∙ sym e)
 
 pub ruleset place_rules = (hex_places-none, hex_places-zero, hex_places-first)
-

@@ -58,7 +58,6 @@ ended_lines-none xs h = ap front_parts (parts-none xs h)
 
 pub ruleset line_rules = (ended_lines-cut, is_ended-cut, ended_lines-none)
 
-
 empty-length : (xs : List ℕ) → is_empty xs ≡ nat_eq (length xs) 0
 empty-length [] = refl
 empty-length (x ∷ xs) = not_zero (length xs)

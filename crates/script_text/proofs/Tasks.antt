@@ -56,7 +56,7 @@ places-lead who pre (x ∷ rest) =
     let n = length pre in
     let s = seat_of who in
     let later : map f (places_from (n + 1) s rest) ≡ map (λ t. Some t) (tasks_of who rest) =
-        (λ i. map (slice_get (tasks_in (sym (append_assoc pre (x ∷ []) rest) i))) (places_from (sym (length-more pre x) i) s rest)) ∙ places-lead who (pre ++ x ∷ []) rest in
+    (λ i. map (slice_get (tasks_in (sym (append_assoc pre (x ∷ []) rest) i))) (places_from (sym (length-more pre x) i) s rest)) ∙ places-lead who (pre ++ x ∷ []) rest in
     ap (map f) (places-first n s x rest)
     ∙ one-more f (nat_eq (seat_of x.caller) s) n x.task (places_from (n + 1) s rest) (tasks_of who rest) (at-seam pre rest x) later
     ∙ ap (λ b. map (λ t. Some t) (if b then x.task ∷ tasks_of who rest else tasks_of who rest)) (sym (same-seat x.caller who))

@@ -37,7 +37,10 @@ fn first_of(a: LineCause, b: LineCause) -> LineCause
 }
 
 // Both fields; where both are wrong, the first of their causes.
-pub fn both<A: Drop, B: Drop>(a: Result<A, LineCause>, b: Result<B, LineCause>) -> Result<(A, B), LineCause>
+pub fn both<A: Drop, B: Drop>(
+    a: Result<A, LineCause>,
+    b: Result<B, LineCause>,
+) -> Result<(A, B), LineCause>
     ensures { result ≡ both a b }
 {
     match (a, b) {
@@ -49,7 +52,11 @@ pub fn both<A: Drop, B: Drop>(a: Result<A, LineCause>, b: Result<B, LineCause>) 
 }
 
 // Three fields.
-pub fn all_three<A: Drop, B: Drop, C: Drop>(a: Result<A, LineCause>, b: Result<B, LineCause>, c: Result<C, LineCause>) -> Result<(A, B, C), LineCause>
+pub fn all_three<A: Drop, B: Drop, C: Drop>(
+    a: Result<A, LineCause>,
+    b: Result<B, LineCause>,
+    c: Result<C, LineCause>,
+) -> Result<(A, B, C), LineCause>
     ensures { result ≡ all_three a b c }
 {
     match both(both(a, b), c) {
@@ -75,7 +82,10 @@ pub fn all_five<A: Drop, B: Drop, C: Drop, D: Drop, E: Drop>(
 }
 
 // Both fields, the second of which takes memory.
-pub fn both_in_memory<A: Drop, B: Drop>(a: Result<A, LineCause>, b: Result<B, LineFault>) -> Result<(A, B), LineFault>
+pub fn both_in_memory<A: Drop, B: Drop>(
+    a: Result<A, LineCause>,
+    b: Result<B, LineFault>,
+) -> Result<(A, B), LineFault>
     ensures value { (read : Result B LineCause) → Says b read → Says result (both a read) }
     ensures fields { IfOk result (λ w. (a ≡ Ok w.0) × (b ≡ Ok w.1)) }
 {

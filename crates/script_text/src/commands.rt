@@ -53,7 +53,11 @@ fn switch(word: &[u8]) -> Result<bool, LineCause>
 fn alone(tail: &[u8], call: Call) -> Result<Call, LineCause>
     ensures { result ≡ none (more_words tail.now) call }
 {
-    if is_none(tail) { Ok(call) } else { Err(LineCause::Count) }
+    if is_none(tail) {
+        Ok(call)
+    } else {
+        Err(LineCause::Count)
+    }
 }
 
 // `GSI LINE up` or `GSI LINE down`
@@ -194,7 +198,11 @@ fn store(tail: &[u8]) -> Result<Call, LineCause>
         return Err(LineCause::Count);
     };
     match all_three(hex64(address), number8(len), hex64(value)) {
-        Ok((address, len, value)) => Ok(Call::Store { address, len, value }),
+        Ok((address, len, value)) => Ok(Call::Store {
+            address,
+            len,
+            value,
+        }),
         Err(cause) => Err(cause),
     }
 }
@@ -288,7 +296,13 @@ fn attach(tail: &[u8]) -> Result<Call, LineCause>
         return Err(LineCause::Count);
     };
     let want = optional_value(b"match".as_slice(), tail);
-    match all_five(space(place), hex64(address), number8(len), number16(counter), want) {
+    match all_five(
+        space(place),
+        hex64(address),
+        number8(len),
+        number16(counter),
+        want,
+    ) {
         Ok((space, address, len, counter, want)) => Ok(Call::Attach {
             space,
             address,
@@ -317,7 +331,13 @@ fn detach(tail: &[u8]) -> Result<Call, LineCause>
         return Err(LineCause::Count);
     };
     let want = optional_value(b"match".as_slice(), tail);
-    match all_five(space(place), hex64(address), number8(len), number16(counter), want) {
+    match all_five(
+        space(place),
+        hex64(address),
+        number8(len),
+        number16(counter),
+        want,
+    ) {
         Ok((space, address, len, counter, want)) => Ok(Call::Detach {
             space,
             address,

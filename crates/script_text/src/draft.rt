@@ -63,7 +63,12 @@ fn make_seats(alloc: Global, seats: &mut Vec<Items<usize>>, seat: usize) -> Resu
 }
 
 // Puts a place behind those of a seat.
-fn note(alloc: Global, seats: &mut Vec<Items<usize>>, seat: usize, place: usize) -> Result<(), NoMemory>
+fn note(
+    alloc: Global,
+    seats: &mut Vec<Items<usize>>,
+    seat: usize,
+    place: usize,
+) -> Result<(), NoMemory>
     ensures { OnOk result ((n : ℕ) → places_in seats.new.items n ≡ with_place seat place n (places_in seats.old.items n)) }
 {
     make_seats(alloc, seats, seat)?;
@@ -152,10 +157,8 @@ impl Draft {
     // What the k-th line of a caller asks, from 0.
     pub fn task(&self, caller: Caller, k: usize) -> Option<&Task>
         requires { IsIndexedDraft self.now }
-        ensures at {
-            let tasks = tasks_of caller self.now.lines.items in
-            MatchOption result (drop k tasks ≡ []) (λ t. drop k tasks ≡ t.now ∷ drop (k + 1) tasks)
-        }
+        ensures at { let tasks = tasks_of caller self.now.lines.items in
+            MatchOption result (drop k tasks ≡ []) (λ t. drop k tasks ≡ t.now ∷ drop (k + 1) tasks) }
         ensures counted { IfSome result (λ t. IsCounted t.now) }
         ensures below { IfSome result (λ _. k + 1 < 2 ^ 64) }
     {

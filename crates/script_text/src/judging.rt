@@ -47,7 +47,11 @@ fn version(draft: &Draft, line: &[u8]) -> Result<Place, LineFault>
 {
     let (name, tail) = first_word(line);
     let Some((number, tail)) = next_word(tail) else {
-        let cause = if name == b"irqboard".as_slice() { LineCause::Count } else { LineCause::Word };
+        let cause = if name == b"irqboard".as_slice() {
+            LineCause::Count
+        } else {
+            LineCause::Word
+        };
         return Err(LineFault::Bad(cause));
     };
     if name == b"irqboard".as_slice() && number == b"1".as_slice() {
@@ -222,7 +226,12 @@ fn is_over(place: Place) -> bool
 
 // What a line makes of what stands before it.
 #[tactic(auto, unfolding(crate::specs::Scripts::judge))]
-pub fn judge(alloc: Global, place: Place, draft: &mut Draft, line: &[u8]) -> Result<Place, LineFault>
+pub fn judge(
+    alloc: Global,
+    place: Place,
+    draft: &mut Draft,
+    line: &[u8],
+) -> Result<Place, LineFault>
     ensures lead { Leads result draft.new (judge place (script_in draft.old) line.now) }
     ensures index { OnOk result (IsIndexedDraft draft.old → IsIndexedDraft draft.new) }
 {

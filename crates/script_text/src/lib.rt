@@ -16,7 +16,7 @@ mod words;
 
 pub use causes::LineFault;
 pub use commands::command;
-pub use script::{Script, ScriptFault, parse};
 pub use progress::{Phase, Progress};
+pub use script::{Script, ScriptFault, parse};
 pub use spelling::push_call;
 pub use task::{ActorLine, Task};

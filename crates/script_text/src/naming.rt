@@ -123,7 +123,12 @@ fn may_ask(shape: &Shape, who: Caller, task: &Task) -> bool
 }
 
 // The actor line of a name and the words behind it.
-pub fn actor_line(alloc: Global, shape: &Shape, who: &[u8], tail: &[u8]) -> Result<ActorLine, LineFault>
+pub fn actor_line(
+    alloc: Global,
+    shape: &Shape,
+    who: &[u8],
+    tail: &[u8],
+) -> Result<ActorLine, LineFault>
     ensures value { Says result (actor_line shape.now (who.now ∷ more_words tail.now)) }
     ensures counted { IfOk result (λ line. IsCounted line.task) }
 {

@@ -207,4 +207,3 @@ pub fn value_width(len: u8) -> u32
 {
     (2 * u32::from(len.min(8))).max(1)
 }
-

@@ -131,15 +131,11 @@ impl Progress {
     /// Follows a reply to the call that this actor of the script asked next. Where there was none, it stays.
     pub fn after(&mut self, script: &Script, actor: usize, reply: &Reply)
         requires { actor < length (actors_of script.now.lines) }
-        ensures left {
-            let tasks = tasks_of (caller_at script.now.lines actor) script.now.lines in
-            left_at tasks self.new ≡ answered (left_at tasks self.old) reply.now
-        }
-        ensures followed {
-            let who = caller_at script.now.lines actor in
+        ensures left { let tasks = tasks_of (caller_at script.now.lines actor) script.now.lines in
+            left_at tasks self.new ≡ answered (left_at tasks self.old) reply.now }
+        ensures followed { let who = caller_at script.now.lines actor in
             (replies : List Reply) → HasFollowed who script.now.lines replies self.old
-            → HasFollowed who script.now.lines (replies ++ reply.now ∷ []) self.new
-        }
+            → HasFollowed who script.now.lines (replies ++ reply.now ∷ []) self.new }
     {
         if let Some(task) = script.task(actor, self.line) {
             match replied(task, self.done, self.phase, reply) {

@@ -22,10 +22,7 @@ use std::marker::Model;
 #[derive(Clone, Copy, Debug, PartialEq, Eq)]
 pub enum ScriptFault {
     /// The first bad line, from 1, and the first cause that fits it.
-    BadLine {
-        line: u32,
-        cause: LineCause,
-    },
+    BadLine { line: u32, cause: LineCause },
     NoMemory,
 }
 
@@ -82,7 +79,10 @@ fn draft_of(alloc: Global, bytes: &[u8]) -> Result<Draft, ScriptFault>
         match judge(alloc, place, &mut draft, line) {
             Ok(next) => place = next,
             Err(fault) => match fault {
-                LineFault::Bad(cause) => return Err(ScriptFault::BadLine { line: number, cause }),
+                LineFault::Bad(cause) => return Err(ScriptFault::BadLine {
+                    line: number,
+                    cause,
+                }),
                 LineFault::NoMemory => return Err(ScriptFault::NoMemory),
             },
         }
@@ -147,10 +147,8 @@ impl Script {
     // What the k-th line of an actor asks, from 0.
     pub fn task(&self, actor: usize, k: usize) -> Option<&Task>
         requires { actor < length (actors_of self.now.lines) }
-        ensures at {
-            let tasks = tasks_of (caller_at self.now.lines actor) self.now.lines in
-            MatchOption result (drop k tasks ≡ []) (λ t. drop k tasks ≡ t.now ∷ drop (k + 1) tasks)
-        }
+        ensures at { let tasks = tasks_of (caller_at self.now.lines actor) self.now.lines in
+            MatchOption result (drop k tasks ≡ []) (λ t. drop k tasks ≡ t.now ∷ drop (k + 1) tasks) }
         ensures counted { IfSome result (λ t. IsCounted t.now) }
         ensures below { IfSome result (λ _. k + 1 < 2 ^ 64) }
     {
@@ -160,15 +158,11 @@ impl Script {
     /// What an actor asks next, where the progress followed its replies; `None` where it asks nothing more.
     pub fn next<'a>(&'a self, actor: usize, progress: &Progress) -> Option<&'a Call>
         requires { actor < length (actors_of self.now.lines) }
-        ensures left {
-            let tasks = tasks_of (caller_at self.now.lines actor) self.now.lines in
-            option_copied result ≡ next_call (left_at tasks progress.now)
-        }
-        ensures followed {
-            let who = caller_at self.now.lines actor in
+        ensures left { let tasks = tasks_of (caller_at self.now.lines actor) self.now.lines in
+            option_copied result ≡ next_call (left_at tasks progress.now) }
+        ensures followed { let who = caller_at self.now.lines actor in
             (replies : List Reply) → HasFollowed who self.now.lines replies progress.now
-            → option_copied result ≡ next_ask who self.now.lines replies
-        }
+            → option_copied result ≡ next_ask who self.now.lines replies }
     {
         match self.task(actor, progress.line) {
             None => None,

@@ -77,7 +77,14 @@ fn push_resample(text: &mut String, resample: Option<u16>) -> Result<(), AllocEr
 
 // Puts the words of a binding at the end.
 #[tactic(auto, using(crate::proofs::Texts::word_rules))]
-fn push_binding(text: &mut String, space: Space, address: u64, len: u8, counter: u16, want: Option<u64>) -> Result<(), AllocError>
+fn push_binding(
+    text: &mut String,
+    space: Space,
+    address: u64,
+    len: u8,
+    counter: u16,
+    want: Option<u64>,
+) -> Result<(), AllocError>
     ensures { OnOk result (string_bytes text.new ≡ string_bytes text.old ++ spaced (binding_words space address len counter want)) }
 {
     push_space(text, space, address)?;
@@ -91,15 +98,27 @@ pub fn push_call(text: &mut String, call: &Call) -> Result<(), AllocError>
     ensures { OnOk result (string_bytes text.new ≡ string_bytes text.old ++ spaced (call_words call.now)) }
 {
     match call {
-        Call::Line { gsi, line, high: true } => write!(text, " line {gsi} {line} up"),
-        Call::Line { gsi, line, high: false } => write!(text, " line {gsi} {line} down"),
+        Call::Line {
+            gsi,
+            line,
+            high: true,
+        } => write!(text, " line {gsi} {line} up"),
+        Call::Line {
+            gsi,
+            line,
+            high: false,
+        } => write!(text, " line {gsi} {line} down"),
         Call::Msi { address, payload } => {
             push_labelled(text, " msi ", *address, 8)?;
             push_labelled(text, " ", u64::from(*payload), 8)
         }
         Call::Write { counter, n } => write!(text, " write {counter} {n}"),
         Call::Take { counter } => write!(text, " take {counter}"),
-        Call::Assign { trigger, gsi, resample } => {
+        Call::Assign {
+            trigger,
+            gsi,
+            resample,
+        } => {
             write!(text, " assign {trigger} {gsi}")?;
             push_resample(text, *resample)
         }
@@ -108,11 +127,23 @@ pub fn push_call(text: &mut String, call: &Call) -> Result<(), AllocError>
             text.push_str(" reroute")?;
             push_rows(text, rows)
         }
-        Call::Attach { space, address, len, counter, want } => {
+        Call::Attach {
+            space,
+            address,
+            len,
+            counter,
+            want,
+        } => {
             text.push_str(" attach")?;
             push_binding(text, *space, *address, *len, *counter, *want)
         }
-        Call::Detach { space, address, len, counter, want } => {
+        Call::Detach {
+            space,
+            address,
+            len,
+            counter,
+            want,
+        } => {
             text.push_str(" detach")?;
             push_binding(text, *space, *address, *len, *counter, *want)
         }
@@ -130,7 +161,11 @@ pub fn push_call(text: &mut String, call: &Call) -> Result<(), AllocError>
             push_labelled(text, " in ", u64::from(*port), 4)?;
             write!(text, " {len}")
         }
-        Call::Store { address, len, value } => {
+        Call::Store {
+            address,
+            len,
+            value,
+        } => {
             push_labelled(text, " store ", *address, 8)?;
             write!(text, " {len}")?;
             push_labelled(text, " ", *value, value_width(*len))

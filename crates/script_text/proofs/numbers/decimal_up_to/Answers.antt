@@ -14,5 +14,5 @@ returns-then-larger-from-clause-value c =
     let is : decimal_value (get_or digits i 0) ≡ Some v = sym c.in-Some.ensures.value in
     let above : c.args.most < 10 * n + v = omega (arith, c.if-larger-from.true, c.from-in-loop-digit-2.ensures, c.from.ensures, c.from-in-loop-digit.ensures) in
     sym (sym c.loop-digit.invariant.1
-        ∙ ap r (decimal_from-step digits i n 0 (omega arith) ∙ ap (option_and_then (λ v. decimal_from (10 * n + v) (drop (i + 1) digits))) is)
-        ∙ too_great c.args.least c.args.most (10 * n + v) (drop (i + 1) digits) above)
+    ∙ ap r (decimal_from-step digits i n 0 (omega arith) ∙ ap (option_and_then (λ v. decimal_from (10 * n + v) (drop (i + 1) digits))) is)
+    ∙ too_great c.args.least c.args.most (10 * n + v) (drop (i + 1) digits) above)
