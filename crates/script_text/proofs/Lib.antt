@@ -8,3 +8,10 @@ mod Readings
 mod Tasks
 mod Asked
 mod Texts
+mod Again
+mod WordsAgain
+mod CommandsAgain
+mod RowsAgain
+mod CallsAgain
+mod LinesAgain
+mod ScriptsAgain

@@ -79,28 +79,34 @@ abbrev pub spaced : List (List ℕ) → List ℕ
 spaced [] = []
 spaced (word ∷ words) = 32 ∷ (word ++ spaced words)
 
--- the words of what a line asks
+-- words with one space between them
+abbrev pub joined : List (List ℕ) → List ℕ
+joined [] = []
+joined (word ∷ words) = word ++ spaced words
+
+-- the words of what a line asks, and of an actor line
 abbrev pub task_words : Task → List (List ℕ)
 task_words (Once call) = call_words call
 task_words (Repeat n call) = codes "repeat" ∷ decimal n ∷ call_words call
 task_words (Serve n) = codes "serve" ∷ decimal n ∷ []
 
-abbrev pub actor_line_text : ActorLine → List ℕ
-actor_line_text line = caller_text line.caller ++ spaced (task_words line.task)
+abbrev pub actor_words : ActorLine → List (List ℕ)
+actor_words line = caller_text line.caller ∷ task_words line.task
 
 -- every header, whether it could be left out or not
-abbrev pub header_lines : Shape → List (List ℕ)
-header_lines shape =
-    codes "irqboard 1"
-    ∷ (codes "cpus " ++ decimal shape.cpus)
-    ∷ (codes "counters " ++ decimal shape.counters)
-    ∷ (codes "tick " ++ decimal shape.tick)
-    ∷ (codes "calls " ++ decimal shape.calls)
-    ∷ (codes "publications " ++ decimal shape.publications)
+abbrev pub header_words : Shape → List (List (List ℕ))
+header_words shape =
+    (codes "irqboard" ∷ codes "1" ∷ [])
+    ∷ (codes "cpus" ∷ decimal shape.cpus ∷ [])
+    ∷ (codes "counters" ∷ decimal shape.counters ∷ [])
+    ∷ (codes "tick" ∷ decimal shape.tick ∷ [])
+    ∷ (codes "calls" ∷ decimal shape.calls ∷ [])
+    ∷ (codes "publications" ∷ decimal shape.publications ∷ [])
     ∷ []
 
-abbrev pub lines_of : Script → List (List ℕ)
-lines_of s = header_lines s.shape ++ (map actor_line_text s.lines ++ codes "end" ∷ [])
+-- the lines of a script, each as its words
+abbrev pub script_words : Script → List (List (List ℕ))
+script_words s = header_words s.shape ++ (map actor_words s.lines ++ (codes "end" ∷ []) ∷ [])
 
 -- each line with its line feed
 abbrev pub with_feeds : List (List ℕ) → List ℕ
@@ -109,4 +115,4 @@ with_feeds (line ∷ lines) = line ++ 10 ∷ with_feeds lines
 
 -- the text of a script
 abbrev pub text_of : Script → List ℕ
-text_of s = with_feeds (lines_of s)
+text_of s = with_feeds (map joined (script_words s))

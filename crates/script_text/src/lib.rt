@@ -5,6 +5,7 @@ mod causes;
 mod commands;
 mod draft;
 mod judging;
+mod laws;
 mod naming;
 mod numbers;
 mod progress;
@@ -16,6 +17,7 @@ mod words;
 
 pub use causes::LineFault;
 pub use commands::command;
+pub use laws::texts_are_read;
 pub use progress::{Phase, Progress};
 pub use script::{Script, ScriptFault, parse};
 pub use spelling::push_call;
