@@ -15,3 +15,4 @@ mod RowsAgain
 mod CallsAgain
 mod LinesAgain
 mod ScriptsAgain
+mod FieldsFit

@@ -28,7 +28,8 @@ both (Ok a) (Err e) = Err e
 both (Err d) (Ok b) = Err d
 both (Err d) (Err e) = Err (first_of d e)
 
-abbrev pub all_three : {A B C : Type 0} → Result A LineCause → Result B LineCause → Result C LineCause → Result (A × B × C) LineCause
+abbrev pub all_three : {A B C : Type 0} → Result A LineCause → Result B LineCause → Result C LineCause
+    → Result (A × B × C) LineCause
 all_three a b c = elim (both (both a b) c) [ Ok w ↦ Ok (w.0.0, w.0.1, w.1) | Err e ↦ Err e ]
 
 abbrev pub all_five : {A B C D E : Type 0} → Result A LineCause → Result B LineCause → Result C LineCause

@@ -92,8 +92,9 @@ abbrev pub two_fields : {A B X : Type 0} → (A → B → X) → (List ℕ → R
     → List (List ℕ) → Result X LineCause
 two_fields make a b words = two words (λ v w. of_two make (a v) (b w))
 
-abbrev pub three_fields : {A B C X : Type 0} → (A → B → C → X) → (List ℕ → Result A LineCause) → (List ℕ → Result B LineCause)
-    → (List ℕ → Result C LineCause) → List (List ℕ) → Result X LineCause
+abbrev pub three_fields : {A B C X : Type 0} → (A → B → C → X)
+    → (List ℕ → Result A LineCause) → (List ℕ → Result B LineCause) → (List ℕ → Result C LineCause)
+    → List (List ℕ) → Result X LineCause
 three_fields make a b c words = three words (λ v w x. of_three make (a v) (b w) (c x))
 
 -- the table of commands: the first word, and what follows it

@@ -38,7 +38,9 @@ hex most word = if nat_eq (length word) 0 || nat_lt 16 (length word) then Err Nu
 
 -- decimal: digits, the first of several not being 0, and a number of the range
 abbrev pub decimal_in : ℕ → ℕ → List ℕ → Result ℕ LineCause
-decimal_in least most word = if nat_eq (length word) 0 || (nat_lt 1 (length word) && nat_eq (slice_index word 0) 48) then Err Number else between least most (decimal_from 0 word)
+decimal_in least most word =
+    if nat_eq (length word) 0 || (nat_lt 1 (length word) && nat_eq (slice_index word 0) 48) then Err Number
+    else between least most (decimal_from 0 word)
 
 -- the digit of a value below 16
 abbrev pub hex_digit : ℕ → ℕ

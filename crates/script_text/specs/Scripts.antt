@@ -152,7 +152,8 @@ at_end Over s n true = Ok s
 at_end place s n true = Err (n, End)
 
 -- the lines from number n on
-abbrev pub next_line : ℕ → Result Standing LineCause → (Standing → Result Script (ℕ × LineCause)) → Result Script (ℕ × LineCause)
+abbrev pub next_line : ℕ → Result Standing LineCause → (Standing → Result Script (ℕ × LineCause))
+    → Result Script (ℕ × LineCause)
 next_line n (Ok standing) rest = rest standing
 next_line n (Err cause) rest = Err (n, cause)
 

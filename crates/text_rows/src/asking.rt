@@ -87,20 +87,19 @@ fn actors_are_numbered_by_their_first_lines(rt: HostRuntime) -> Result<(), Fail>
     Err(Fail::from("not three actors"))
 }
 
-fn count_asked(script: &Script, most: u32) -> u32 {
-    let mut progress = Progress::start();
-    let mut count = 0;
+// How many calls the first actor asks, where each is answered `done`; none where there are more.
+fn count_asked(script: &Script, most: u32) -> Option<u32> {
     if script.actors() == 0 {
-        return 0;
+        return None;
     }
-    for _ in 0..most {
+    let mut progress = Progress::start();
+    for count in 0..most {
         if script.next(0, &progress).is_none() {
-            return count;
+            return Some(count);
         }
         progress.after(script, 0, &Reply::Done);
-        count += 1;
     }
-    count
+    None
 }
 
 #[test]
@@ -109,6 +108,6 @@ fn a_command_is_repeated_a_million_times(rt: HostRuntime) -> Result<(), Fail> {
         rt.alloc(),
         "irqboard 1\ncpus 1\ncpu0 repeat 1000000 ack\nend\n",
     )?;
-    assert_eq!(rt; count_asked(&script, 2_000_000), 1_000_000);
+    assert_eq!(rt; count_asked(&script, 2_000_000), Some(1_000_000));
     Ok(())
 }
