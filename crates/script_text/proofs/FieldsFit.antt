@@ -42,7 +42,7 @@ three-fits P (a ∷ b ∷ []) f h = tt
 three-fits P (a ∷ b ∷ c ∷ []) f h = h a b c
 three-fits P (a ∷ b ∷ c ∷ d ∷ ws) f h = tt
 
-none-fits : {X : Type 0} (P : X → Type 0) (words : List (List ℕ)) (x : X) → P x → IfOk (none words x) P
+pub none-fits : {X : Type 0} (P : X → Type 0) (words : List (List ℕ)) (x : X) → P x → IfOk (none words x) P
 none-fits P [] x h = h
 none-fits P (w ∷ ws) x h = tt
 
@@ -58,7 +58,7 @@ of-two P Q R f (Ok v) (Err e) q r k = tt
 of-two P Q R f (Err d) (Ok w) q r k = tt
 of-two P Q R f (Err d) (Err e) q r k = tt
 
-of-three : {A B C X : Type 0} (P : X → Type 0) (Q : A → Type 0) (R : B → Type 0) (S : C → Type 0) (f : A → B → C → X) (a : Result A LineCause) (b : Result B LineCause) (c : Result C LineCause) →
+pub of-three : {A B C X : Type 0} (P : X → Type 0) (Q : A → Type 0) (R : B → Type 0) (S : C → Type 0) (f : A → B → C → X) (a : Result A LineCause) (b : Result B LineCause) (c : Result C LineCause) →
     IfOk a Q → IfOk b R → IfOk c S → ((u : A) (v : B) (w : C) → Q u → R v → S w → P (f u v w)) → IfOk (of_three f a b c) P
 of-three P Q R S f (Ok u) (Ok v) (Ok w) q r s k = k u v w q r s
 of-three P Q R S f (Ok u) (Ok v) (Err e) q r s k = tt
@@ -97,37 +97,37 @@ below : (least most bound : ℕ) (r : Result ℕ LineCause) → most < bound →
 below least most bound (Ok n) less h = omega (arith, less, h.1)
 below least most bound (Err e) less h = tt
 
-abbrev Below : ℕ → ℕ → Type 0
+abbrev pub Below : ℕ → ℕ → Type 0
 Below bits n = n < 2 ^ bits
 
-fits-hex64 : (w : List ℕ) → IfOk (hex64 w) (Below 64)
+pub fits-hex64 : (w : List ℕ) → IfOk (hex64 w) (Below 64)
 fits-hex64 w = below 0 0xffffffffffffffff (2 ^ 64) (hex64 w) (omega arith) (hex-fits 0xffffffffffffffff w)
 
-fits-hex32 : (w : List ℕ) → IfOk (hex32 w) (Below 32)
+pub fits-hex32 : (w : List ℕ) → IfOk (hex32 w) (Below 32)
 fits-hex32 w = below 0 0xffffffff (2 ^ 32) (hex32 w) (omega arith) (hex-fits 0xffffffff w)
 
-fits-hex16 : (w : List ℕ) → IfOk (hex16 w) (Below 16)
+pub fits-hex16 : (w : List ℕ) → IfOk (hex16 w) (Below 16)
 fits-hex16 w = below 0 0xffff (2 ^ 16) (hex16 w) (omega arith) (hex-fits 0xffff w)
 
-fits-number64 : (w : List ℕ) → IfOk (number64 w) (Below 64)
+pub fits-number64 : (w : List ℕ) → IfOk (number64 w) (Below 64)
 fits-number64 w = below 0 0xffffffffffffffff (2 ^ 64) (number64 w) (omega arith) (decimal-fits 0 0xffffffffffffffff w)
 
 pub fits-number16 : (w : List ℕ) → IfOk (number16 w) (Below 16)
 fits-number16 w = below 0 0xffff (2 ^ 16) (number16 w) (omega arith) (decimal-fits 0 0xffff w)
 
-fits-number8 : (w : List ℕ) → IfOk (number8 w) (Below 8)
+pub fits-number8 : (w : List ℕ) → IfOk (number8 w) (Below 8)
 fits-number8 w = below 0 0xff (2 ^ 8) (number8 w) (omega arith) (decimal-fits 0 0xff w)
 
 -- any field
-abbrev Any : {A : Type 0} → A → Type 0
+abbrev pub Any : {A : Type 0} → A → Type 0
 Any x = Unit {0}
 
-any : {A : Type 0} (r : Result A LineCause) → IfOk r (Any {A = A})
+pub any : {A : Type 0} (r : Result A LineCause) → IfOk r (Any {A = A})
 any (Ok x) = tt
 any (Err e) = tt
 
 -- what may be left out
-optional-fits : (bits : ℕ) (fixed : List ℕ) (field : List ℕ → Result ℕ LineCause) (words : List (List ℕ)) → ((w : List ℕ) → IfOk (field w) (Below bits)) →
+pub optional-fits : (bits : ℕ) (fixed : List ℕ) (field : List ℕ → Result ℕ LineCause) (words : List (List ℕ)) → ((w : List ℕ) → IfOk (field w) (Below bits)) →
     IfOk (optional fixed field words) (FitsIfThere bits)
 optional-fits bits fixed field words fits =
     if-either (FitsIfThere bits) (is_empty words) (Ok None) (two words (λ word value. of_two (λ (_ : Bool) v. Some v) (fixed_word fixed word) (field value))) tt
@@ -163,6 +163,6 @@ with-fits (Ok r) (Ok rs) h hs = All-cons FitsRow r rs h hs
 with-fits (Ok r) (Err e) h hs = tt
 with-fits (Err d) rs h hs = tt
 
-rows-fit : (words : List (List ℕ)) → IfOk (rows words) (All FitsRow)
+pub rows-fit : (words : List (List ℕ)) → IfOk (rows words) (All FitsRow)
 rows-fit [] = All-nil FitsRow
 rows-fit (word ∷ words) = with-fits (row word) (rows words) (parts-fit (parts_of 61 word)) (rows-fit words)

@@ -16,3 +16,5 @@ mod CallsAgain
 mod LinesAgain
 mod ScriptsAgain
 mod FieldsFit
+mod CommandsFit
+mod ScriptsFit

@@ -17,7 +17,7 @@ mod words;
 
 pub use causes::LineFault;
 pub use commands::command;
-pub use laws::texts_are_read;
+pub use laws::{scripts_fit, texts_are_read};
 pub use progress::{Phase, Progress};
 pub use script::{Script, ScriptFault, parse};
 pub use spelling::push_call;
