@@ -47,9 +47,9 @@ cpus-stands s [] h = tt
 cpus-stands s (name ∷ words) h =
     if-either StandsAt (same_text name (codes "cpus")) (one_field (with_cpus s) (decimal_in 1 64) words) (Err Word)
     (one-fits StandsAt words _ (λ w.
-        of-one StandsAt (λ n. (1 ≤ n) × (n ≤ 64)) (with_cpus s) (decimal_in 1 64 w) (decimal-fits 1 64 w)
-        (λ n r. begun 0 (record s.shape { cpus = n }) s h.1
-            (record { cpus = r; counters = h.0.counters; tick = h.0.tick; calls = h.0.calls; publications = h.0.publications }))))
+    of-one StandsAt (λ n. (1 ≤ n) × (n ≤ 64)) (with_cpus s) (decimal_in 1 64 w) (decimal-fits 1 64 w)
+    (λ n r. begun 0 (record s.shape { cpus = n }) s h.1
+    (record { cpus = r; counters = h.0.counters; tick = h.0.tick; calls = h.0.calls; publications = h.0.publications }))))
     tt
 
 -- an answer of an arm whose test held, or of the other
@@ -72,24 +72,24 @@ within-stands past s (name ∷ words) h =
     let header = h.0.header in
     if-held StandsAt (nat_lt past 1 && same_text name (codes "counters")) _ _
     (λ e. one-fits StandsAt words _ (λ w.
-        of-one StandsAt (λ n. (0 ≤ n) × (n ≤ 256)) (with_counters s) (decimal_in 0 256 w) (decimal-fits 0 256 w)
-        (λ n r. begun 1 (record s.shape { counters = n }) s (h.1 (earlier past 1 _ e (omega arith)))
-            (record { cpus = header.cpus; counters = r.1; tick = header.tick; calls = header.calls; publications = header.publications }))))
+    of-one StandsAt (λ n. (0 ≤ n) × (n ≤ 256)) (with_counters s) (decimal_in 0 256 w) (decimal-fits 0 256 w)
+    (λ n r. begun 1 (record s.shape { counters = n }) s (h.1 (earlier past 1 _ e (omega arith)))
+    (record { cpus = header.cpus; counters = r.1; tick = header.tick; calls = header.calls; publications = header.publications }))))
     (if-held StandsAt (nat_lt past 2 && same_text name (codes "tick")) _ _
     (λ e. one-fits StandsAt words _ (λ w.
-        of-one StandsAt (λ n. (0 ≤ n) × (n ≤ 4095)) (with_tick s) (decimal_in 0 4095 w) (decimal-fits 0 4095 w)
-        (λ n r. begun 2 (record s.shape { tick = n }) s (h.1 (earlier past 2 _ e (omega arith)))
-            (record { cpus = header.cpus; counters = header.counters; tick = r.1; calls = header.calls; publications = header.publications }))))
+    of-one StandsAt (λ n. (0 ≤ n) × (n ≤ 4095)) (with_tick s) (decimal_in 0 4095 w) (decimal-fits 0 4095 w)
+    (λ n r. begun 2 (record s.shape { tick = n }) s (h.1 (earlier past 2 _ e (omega arith)))
+    (record { cpus = header.cpus; counters = header.counters; tick = r.1; calls = header.calls; publications = header.publications }))))
     (if-held StandsAt (nat_lt past 3 && same_text name (codes "calls")) _ _
     (λ e. one-fits StandsAt words _ (λ w.
-        of-one StandsAt (λ n. (1 ≤ n) × (n ≤ 4000000)) (with_calls s) (decimal_in 1 4000000 w) (decimal-fits 1 4000000 w)
-        (λ n r. begun 3 (record s.shape { calls = n }) s (h.1 (earlier past 3 _ e (omega arith)))
-            (record { cpus = header.cpus; counters = header.counters; tick = header.tick; calls = r; publications = header.publications }))))
+    of-one StandsAt (λ n. (1 ≤ n) × (n ≤ 4000000)) (with_calls s) (decimal_in 1 4000000 w) (decimal-fits 1 4000000 w)
+    (λ n r. begun 3 (record s.shape { calls = n }) s (h.1 (earlier past 3 _ e (omega arith)))
+    (record { cpus = header.cpus; counters = header.counters; tick = header.tick; calls = r; publications = header.publications }))))
     (if-held StandsAt (nat_lt past 4 && same_text name (codes "publications")) _ _
     (λ e. one-fits StandsAt words _ (λ w.
-        of-one StandsAt (λ n. (0 ≤ n) × (n ≤ 1048576)) (with_publications s) (decimal_in 0 1048576 w) (decimal-fits 0 1048576 w)
-        (λ n r. begun 4 (record s.shape { publications = n }) s (h.1 (earlier past 4 _ e (omega arith)))
-            (record { cpus = header.cpus; counters = header.counters; tick = header.tick; calls = header.calls; publications = r.1 }))))
+    of-one StandsAt (λ n. (0 ≤ n) × (n ≤ 1048576)) (with_publications s) (decimal_in 0 1048576 w) (decimal-fits 0 1048576 w)
+    (λ n r. begun 4 (record s.shape { publications = n }) s (h.1 (earlier past 4 _ e (omega arith)))
+    (record { cpus = header.cpus; counters = header.counters; tick = header.tick; calls = header.calls; publications = r.1 }))))
     (if-held StandsAt (same_text name (codes "end")) _ _ (λ _. none-fits StandsAt words (Over, s) h.0)
     (of-one StandsAt (IsLine s.shape) (with_line s) (actor_line s.shape (name ∷ words)) (line-fits s.shape (name ∷ words)) (λ line l. added-stands s line h.0 l))))))
 

@@ -135,9 +135,7 @@ fn calls(draft: &mut Draft, tail: &[u8]) -> Result<Place, LineFault>
 
 // `N` of `publications`
 fn publications(draft: &mut Draft, tail: &[u8]) -> Result<Place, LineFault>
-    ensures lead {
-        Leads result draft.new (one_field (with_publications (script_in draft.old)) (decimal_in 0 1048576) (more_words tail.now))
-    }
+    ensures lead { Leads result draft.new (one_field (with_publications (script_in draft.old)) (decimal_in 0 1048576) (more_words tail.now)) }
     ensures index { IsIndexedDraft draft.old → IsIndexedDraft draft.new }
 {
     let Some(word) = one_word(tail) else {
@@ -154,10 +152,8 @@ fn publications(draft: &mut Draft, tail: &[u8]) -> Result<Place, LineFault>
 
 // An actor line, put behind the others.
 fn actor(alloc: Global, draft: &mut Draft, who: &[u8], tail: &[u8]) -> Result<Place, LineFault>
-    ensures lead {
-        let line = actor_line draft.old.shape (who.now ∷ more_words tail.now) in
-        Leads result draft.new (of_one (with_line (script_in draft.old)) line)
-    }
+    ensures lead { let line = actor_line draft.old.shape (who.now ∷ more_words tail.now) in
+        Leads result draft.new (of_one (with_line (script_in draft.old)) line) }
     ensures index { OnOk result (IsIndexedDraft draft.old → IsIndexedDraft draft.new) }
 {
     match actor_line(alloc, &draft.shape, who, tail) {

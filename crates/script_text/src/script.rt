@@ -6,6 +6,7 @@ ghost use Rattle.script_text.specs.Draft.{script_in, IsIndexedDraft};
 ghost use Rattle.script_text.specs.Index.{IsCounted};
 ghost use Rattle.script_text.specs.Faults.{Tells};
 ghost use Rattle.script_text.specs.Answers.{Reads};
+ghost use Rattle.script_text.specs.Fitting.{IsScript};
 ghost use Rattle.irq_base.specs.declared.reply.Reply.{Reply};
 
 use crate::causes::LineFault;
@@ -95,7 +96,8 @@ fn draft_of(alloc: Global, bytes: &[u8]) -> Result<Draft, ScriptFault>
 /// The script that these bytes are. Otherwise the first bad line, counted from 1, with the first cause that fits it.
 pub fn parse(alloc: Global, bytes: &[u8]) -> Result<Script, ScriptFault>
     requires { length bytes.now < 2 ^ 32 - 1 }
-    ensures { Reads result (script_of bytes.now) }
+    ensures read { Reads result (script_of bytes.now) }
+    ensures fits { IfOk result IsScript }
 {
     match draft_of(alloc, bytes) {
         Ok(draft) => Ok(Script {

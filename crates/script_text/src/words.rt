@@ -25,10 +25,8 @@ pub fn first_part(text: &[u8], byte: u8) -> (&[u8], &[u8])
 
 // The next part, and what stands behind it.
 pub fn next_part(tail: &[u8], byte: u8) -> Option<(&[u8], &[u8])>
-    ensures parts {
-        let parts = more_parts byte tail.now in
-        MatchOption result (parts ≡ []) (λ r. parts ≡ r.0.now ∷ more_parts byte r.1.now)
-    }
+    ensures parts { let parts = more_parts byte tail.now in
+        MatchOption result (parts ≡ []) (λ r. parts ≡ r.0.now ∷ more_parts byte r.1.now) }
     ensures fewer { IfSome result (λ r. length r.1.now < length tail.now) }
 {
     match tail {
@@ -39,10 +37,8 @@ pub fn next_part(tail: &[u8], byte: u8) -> Option<(&[u8], &[u8])>
 
 // What stands before the first byte of that value, and what stands behind it.
 pub fn cut(bytes: &[u8], byte: u8) -> Option<(&[u8], &[u8])>
-    ensures parts {
-        let cut = cut_at byte bytes.now in
-        MatchOption result (cut ≡ None) (λ r. cut ≡ Some (r.0.now, r.1.now))
-    }
+    ensures parts { let cut = cut_at byte bytes.now in
+        MatchOption result (cut ≡ None) (λ r. cut ≡ Some (r.0.now, r.1.now)) }
     ensures fewer { IfSome result (λ r. length r.1.now < length bytes.now) }
 {
     match place_of(bytes, byte) {
@@ -64,10 +60,8 @@ pub fn first_word(text: &[u8]) -> (&[u8], &[u8])
 
 // The next word of a tail, and the tail behind it.
 pub fn next_word(tail: &[u8]) -> Option<(&[u8], &[u8])>
-    ensures words {
-        let words = more_words tail.now in
-        MatchOption result (words ≡ []) (λ r. words ≡ r.0.now ∷ more_words r.1.now)
-    }
+    ensures words { let words = more_words tail.now in
+        MatchOption result (words ≡ []) (λ r. words ≡ r.0.now ∷ more_words r.1.now) }
     ensures fewer { IfSome result (λ r. length r.1.now < length tail.now) }
 {
     next_part(tail, b' ')
@@ -82,10 +76,8 @@ pub fn is_none(tail: &[u8]) -> bool
 
 // One word, and no more.
 pub fn one_word(tail: &[u8]) -> Option<&[u8]>
-    ensures {
-        let one = one_of (more_words tail.now) in
-        MatchOption result (one ≡ None) (λ r. one ≡ Some r.now)
-    }
+    ensures { let one = one_of (more_words tail.now) in
+        MatchOption result (one ≡ None) (λ r. one ≡ Some r.now) }
 {
     let (a, tail) = next_word(tail)?;
     if is_none(tail) { Some(a) } else { None }
@@ -93,10 +85,8 @@ pub fn one_word(tail: &[u8]) -> Option<&[u8]>
 
 // Two words, and no more.
 pub fn two_words(tail: &[u8]) -> Option<(&[u8], &[u8])>
-    ensures {
-        let two = two_of (more_words tail.now) in
-        MatchOption result (two ≡ None) (λ r. two ≡ Some (r.0.now, r.1.now))
-    }
+    ensures { let two = two_of (more_words tail.now) in
+        MatchOption result (two ≡ None) (λ r. two ≡ Some (r.0.now, r.1.now)) }
 {
     let (a, tail) = next_word(tail)?;
     let (b, tail) = next_word(tail)?;
@@ -106,10 +96,8 @@ pub fn two_words(tail: &[u8]) -> Option<(&[u8], &[u8])>
 // Three words, and no more.
 #[tactic(auto, using(crate::proofs::Cuts::count_rules))]
 pub fn three_words(tail: &[u8]) -> Option<(&[u8], &[u8], &[u8])>
-    ensures {
-        let three = three_of (more_words tail.now) in
-        MatchOption result (three ≡ None) (λ r. three ≡ Some (r.0.now, r.1.now, r.2.now))
-    }
+    ensures { let three = three_of (more_words tail.now) in
+        MatchOption result (three ≡ None) (λ r. three ≡ Some (r.0.now, r.1.now, r.2.now)) }
 {
     let (a, tail) = next_word(tail)?;
     let (b, c) = two_words(tail)?;
