@@ -10,7 +10,7 @@ ghost use Rattle.script_text.specs.Scripts.{is_printable, is_passed_over, is_ove
 
 use crate::causes::LineFault;
 use crate::draft::Draft;
-use crate::naming::actor_line;
+use crate::actor_lines::actor_line;
 use crate::numbers::decimal_in;
 use crate::words::{first_word, has_empty_word, is_none, next_word, one_word};
 use irq_base::LineCause;

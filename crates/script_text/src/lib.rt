@@ -1,12 +1,13 @@
 //! Scripts: the grammar of their lines, what is wrong with the first bad one, and what each actor of a script asks next.
 #![tactic(auto)]
 
+mod actor_lines;
 mod causes;
 mod commands;
 mod draft;
 mod judging;
 mod laws;
-mod naming;
+
 mod numbers;
 mod progress;
 mod rows;
