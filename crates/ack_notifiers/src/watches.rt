@@ -1,7 +1,7 @@
 //! The rows of watches.
 ghost use Rattle.std.specs.Prelude.{◌≡◌, [], ◌∷◌, ◌+◌, ◌<◌, ◌≤◌, ◌++◌, length, All, IfOk, OnOk, OnErr, vec_capacity};
 ghost use Rattle.arrayvec.specs.ArrayVec.{array_vec_len};
-ghost use Rattle.event_counter.specs.Counters.{signalled_all};
+ghost use Rattle.irq_base.specs.Counts.{signalled_all};
 ghost use Rattle.ack_notifiers.specs.Rows.{watch_answer, unwatch_answer, with_row, without_row, has_row, has_watch, has_counter, watched, watch_events};
 
 use irq_base::{Event, Events, NoMemory, Refusal, Status, Tally};
@@ -72,7 +72,7 @@ impl Watches {
         if has_row(self.rows.as_slice(), counter, gsi) {
             return Err(Refusal::Exists);
         }
-        if self.rows.len() == ROOM {
+        if self.rows.len() >= ROOM {
             return Err(Refusal::Full);
         }
         match self.rows.push(Watch { counter, gsi }) {
@@ -106,6 +106,13 @@ impl Watches {
         ensures { result ≡ has_counter self.now counter }
     {
         self.rows.iter().any(|row| row.counter == counter)
+    }
+
+    /// The rows, in order of registration.
+    pub fn rows(&self) -> &[Watch]
+        ensures { result.now ≡ self.now }
+    {
+        self.rows.as_slice()
     }
 
     /// Signals the counter of each watch of that GSI, in order of registration, with its event. There is room for these

@@ -14,7 +14,7 @@ use Rattle.irq_base.specs.declared.shape.Shape.{Shape}
 use Rattle.ioapic_82093aa.specs.Pins.{entry_at, acknowledged, resend_of}
 use Rattle.irqfd_set.specs.Rows.{has_resampler}
 use Rattle.ack_notifiers.specs.Rows.{watched, watch_events}
-use Rattle.event_counter.specs.Counters.{signalled_all}
+use Rattle.irq_base.specs.Counts.{signalled_all}
 use Rattle.resampler.specs.Resample.{resampled, resample_events}
 use Rattle.tick_reinject.specs.declared.state.TickState.{TickState}
 use Rattle.tick_reinject.specs.Ticks.{tick_acked, tick_injected, ack_injects}

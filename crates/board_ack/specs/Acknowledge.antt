@@ -12,7 +12,7 @@ use Rattle.irq_base.specs.declared.message.Targets.{Targets}
 use Rattle.irq_base.specs.declared.shape.Part.TheVariants.{Registry, Counters, Tick, Pic, Ioapic}
 use Rattle.irq_base.specs.declared.shape.Shape.{Shape}
 use Rattle.ioapic_82093aa.specs.Pins.{entry_at, acknowledged, resend_of}
-use Rattle.event_counter.specs.Counters.{signalled_all}
+use Rattle.irq_base.specs.Counts.{signalled_all}
 use Rattle.irqfd_set.specs.Rows.{has_resampler}
 use Rattle.resampler.specs.Resample.{resampled, resample_events}
 use Rattle.ack_notifiers.specs.Rows.{watched, watch_events}

@@ -7,3 +7,4 @@ pub mod OnParts
 pub mod Followed
 pub mod Pins
 pub mod Words
+pub mod Tables

@@ -19,13 +19,14 @@ use Rattle.irqfd_set.specs.declared.irqfds.Irqfd.{Irqfd}
 use Rattle.irqfd_set.specs.Rows.{has_trigger, of_trigger, has_resampler}
 use Rattle.ack_notifiers.specs.declared.watches.Watch.{Watch}
 use Rattle.ack_notifiers.specs.Rows.{has_watch}
-use Rattle.route_table.specs.Words.{no_targets, is_route_of, bits_at, word_of, targets_in}
-use Rattle.route_table.specs.WordLaws.{targets_in-encoded}
+use Rattle.irq_bits.specs.Fields.{bits_of}
+use Rattle.route_table.specs.Words.{no_targets, is_route_of, targets_word, targets_in}
+use Rattle.route_table.proofs.WordLaws.{targets_in-encoded}
 use Rattle.route_table.specs.Rows.{Table, pic_in, ioapic_in, msi_in, is_same, targets_by, table_of, targets_of, first_given}
 use Rattle.route_table.specs.Rows as table_rows
 use Rattle.route_table.specs.Pins.{gsi_of}
-use Rattle.route_table.specs.Sound.{Sound, sound_of}
-use Rattle.route_table.specs.TableLaws.{given_by_rows}
+use Rattle.route_table.proofs.Sound.{Sound, sound_of}
+use Rattle.route_table.proofs.TableLaws.{given_by_rows}
 use Rattle.board_model.specs.declared.trigger.TriggerWord.{TriggerWord}
 use Rattle.board_model.specs.Registry.{RegistryPart}
 use Rattle.board_model.specs.Routing.{Routing, trigger_of, is_marked, routing_of_registry}
@@ -87,13 +88,13 @@ unfolding mark_of
 mark_back true = refl
 mark_back false = refl
 
-there_bit : (gsi x : ℕ) → bits_at (1 + gsi * 2 + x * 2 ^ 13) 0 0 ≡ 1
+there_bit : (gsi x : ℕ) → bits_of (1 + gsi * 2 + x * 2 ^ 13) 0 0 ≡ 1
 there_bit gsi x = omega arith
 
-gsi_bits : (gsi x : ℕ) → gsi < 4096 → bits_at (1 + gsi * 2 + x * 2 ^ 13) 12 1 ≡ gsi
+gsi_bits : (gsi x : ℕ) → gsi < 4096 → bits_of (1 + gsi * 2 + x * 2 ^ 13) 12 1 ≡ gsi
 gsi_bits gsi x low = omega arith
 
-resample_bit : (gsi x : ℕ) → gsi < 4096 → x < 2 → bits_at (1 + gsi * 2 + x * 2 ^ 13) 13 13 ≡ x
+resample_bit : (gsi x : ℕ) → gsi < 4096 → x < 2 → bits_of (1 + gsi * 2 + x * 2 ^ 13) 13 13 ≡ x
 resample_bit gsi x low small = omega arith
 
 trigger_in-word : (trigger : TriggerWord) → trigger.gsi < 4096 → trigger_in (trigger_word (Some trigger)) ≡ Some trigger
@@ -105,8 +106,8 @@ trigger_in-word trigger low =
       resample = (ap (λ x. nat_eq x 1) (resample_bit trigger.gsi (mark_of trigger.resample) low (mark_small trigger.resample)) ∙ mark_back trigger.resample) i;
     }))
   where
-    told : (w : ℕ) → bits_at w 0 0 ≡ 1 → trigger_in w ≡ Some (record { gsi = bits_at w 12 1; resample = nat_eq (bits_at w 13 13) 1 })
-    told w there = ap (λ b. if nat_eq b 1 then Some (record { gsi = bits_at w 12 1; resample = nat_eq (bits_at w 13 13) 1 }) else None) there
+    told : (w : ℕ) → bits_of w 0 0 ≡ 1 → trigger_in w ≡ Some (record { gsi = bits_of w 12 1; resample = nat_eq (bits_of w 13 13) 1 })
+    told w there = ap (λ b. if nat_eq b 1 then Some (record { gsi = bits_of w 12 1; resample = nat_eq (bits_of w 13 13) 1 }) else None) there
 
 -- ---- a number that is named, and one past those that there are
 
@@ -194,7 +195,7 @@ no_gsi_of_ioapic table n sound past = find_none _ (map.keys table) (λ gsi. no_i
 
 -- ---- the words, place by place
 
-gsi_word-is : (routing : Routing) (gsi : ℕ) → gsi < 4096 → gsi_word_at (words_of routing) gsi ≡ word_of (routing.targets gsi) (routing.marked gsi)
+gsi_word-is : (routing : Routing) (gsi : ℕ) → gsi < 4096 → gsi_word_at (words_of routing) gsi ≡ targets_word (routing.targets gsi) (routing.marked gsi)
 unfolding words_of
 gsi_word-is routing gsi below = word_at-within (words_of routing) 0 4096 gsi below ∙ ap (λ k. get_or (words_of routing) k 0) (place gsi) ∙ get_or-first 4096 _ _ gsi below
   where
@@ -230,7 +231,7 @@ ioapic_word-is routing pin below =
     place : (k : ℕ) → 4368 + k ≡ 4096 + (256 + (16 + k))
     place k = omega arith
 
-length-words_of : (routing : Routing) → length (words_of routing) ≡ 4392
+pub length-words_of : (routing : Routing) → length (words_of routing) ≡ 4392
 unfolding words_of
 length-words_of routing = simp (length-append, length-each_below)
 

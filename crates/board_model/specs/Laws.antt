@@ -80,6 +80,21 @@ pub record PublishesRouting (registry : RegistryPart) (tick : ℕ) : Type 0 wher
 abbrev pub WordsTellTheRouting : Type 0
 WordsTellTheRouting = (registry : RegistryPart) (tick : ℕ) → IsSoundRegistry registry tick → PublishesRouting registry tick
 
+-- a board publishes 4,392 words, whatever its registry
+abbrev pub PublishesAsMany : Type 0
+PublishesAsMany = (registry : RegistryPart) (tick : ℕ) → length (published registry tick) ≡ 4392
+
+-- two sound registries publish the same words
+pub record PublishTheSame (registry other : RegistryPart) (tick other_tick : ℕ) : Type 0 where
+  pub sound : IsSoundRegistry registry tick
+  pub other_sound : IsSoundRegistry other other_tick
+  pub words : published registry tick ≡ published other other_tick
+
+-- two sound registries that publish the same words have one routing table
+abbrev pub PublishedDecidesTheTable : Type 0
+PublishedDecidesTheTable =
+    (registry other : RegistryPart) (tick other_tick : ℕ) → PublishTheSame registry other tick other_tick → registry.table ≡ other.table
+
 -- two sound registries that publish the same words have one routing
 abbrev pub PublishedDecides : Type 0
 PublishedDecides = (registry other : RegistryPart) (tick other_tick : ℕ) → IsSoundRegistry registry tick → IsSoundRegistry other other_tick → published registry tick ≡ published other other_tick → routing_of_registry registry tick ≡ routing_of_registry other other_tick

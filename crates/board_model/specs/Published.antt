@@ -8,7 +8,8 @@ use Rattle.irq_base.specs.declared.event.Pin.TheVariants.{Pic, Ioapic}
 use Rattle.irqfd_set.specs.declared.irqfds.Irqfd.{Irqfd}
 use Rattle.ack_notifiers.specs.declared.watches.Watch.{Watch}
 use Rattle.route_table.specs.Rows.{Table, refusal_of, table_of, targets_of}
-use Rattle.route_table.specs.Words.{is_route, bits_at, word_of, targets_in}
+use Rattle.irq_bits.specs.Fields.{bits_of}
+use Rattle.route_table.specs.Words.{is_route, targets_word, targets_in}
 use Rattle.board_model.specs.declared.trigger.TriggerWord.{TriggerWord}
 use Rattle.board_model.specs.Registry.{RegistryPart}
 use Rattle.board_model.specs.Routing.{Routing, routing_of_registry}
@@ -22,7 +23,7 @@ trigger_word (Some trigger) = 1 + trigger.gsi * 2 + (if trigger.resample then 2 
 
 -- what a word tells of a trigger
 abbrev pub trigger_in : ℕ → Option TriggerWord
-trigger_in word = if nat_eq (bits_at word 0 0) 1 then Some (record { gsi = bits_at word 12 1; resample = nat_eq (bits_at word 13 13) 1 }) else None
+trigger_in word = if nat_eq (bits_of word 0 0) 1 then Some (record { gsi = bits_of word 12 1; resample = nat_eq (bits_of word 13 13) 1 }) else None
 
 -- ---- the word of a pin
 
@@ -46,7 +47,7 @@ each_below (suc n) f = each_below n f ++ f n ∷ []
 -- the words of a routing: those of the GSIs, of the triggers, of the 8259A pins and of the I/O APIC pins
 unfoldable pub words_of : Routing → List ℕ
 words_of routing =
-    each_below 4096 (λ gsi. word_of (routing.targets gsi) (routing.marked gsi))
+    each_below 4096 (λ gsi. targets_word (routing.targets gsi) (routing.marked gsi))
     ++ (each_below 256 (λ counter. trigger_word (routing.trigger counter))
     ++ (each_below 16 (λ pin. pin_word (routing.gsi_of (Pic pin))) ++ each_below 24 (λ pin. pin_word (routing.gsi_of (Ioapic pin)))))
 

@@ -11,7 +11,7 @@
 
 mod trigger;
 
-ghost use Rattle.board_model.specs.Laws.{UnreachedStays, FrameStays, AgreeingAlike, ShownDecides, ExactOnParts, LackingExactly, LackingIsNotHeld, ShownFollowed, RunInSequence, RunOnInSequence, ReachesInSequence, StatusShowsSets, PinsFollowHolds, WordsTellTheRouting, PublishedDecides};
+ghost use Rattle.board_model.specs.Laws.{UnreachedStays, FrameStays, AgreeingAlike, ShownDecides, ExactOnParts, LackingExactly, LackingIsNotHeld, ShownFollowed, RunInSequence, RunOnInSequence, ReachesInSequence, StatusShowsSets, PinsFollowHolds, WordsTellTheRouting, PublishedDecides, PublishesAsMany, PublishedDecidesTheTable};
 
 pub use trigger::TriggerWord;
 
@@ -105,4 +105,16 @@ pub fn words_tell_the_routing()
 #[tactic(auto, using(crate::proofs::Words::published_decides))]
 pub fn published_decides()
     ensures { PublishedDecides }
+{}
+
+/// A law: every board publishes 4,392 words, whatever its registry.
+#[tactic(auto, using(crate::proofs::Tables::publishes_as_many))]
+pub fn publishes_as_many()
+    ensures { PublishesAsMany }
+{}
+
+/// A law: two sound registries that publish the same words have the same routing table.
+#[tactic(auto, using(crate::proofs::Tables::published_decides_the_table))]
+pub fn published_decides_the_table()
+    ensures { PublishedDecidesTheTable }
 {}

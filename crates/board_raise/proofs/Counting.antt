@@ -15,7 +15,7 @@ use Rattle.irq_base.specs.declared.status.Cause.{Cause}
 use Rattle.irq_base.specs.declared.status.Cause.TheVariants.{NoProcessor, BadVector, Mode as BadMode, Masked}
 use Rattle.ioapic_82093aa.specs.declared.ioapic.Raise.{Raise}
 use Rattle.ioapic_82093aa.specs.declared.ioapic.Raise.TheVariants as raises
-use Rattle.ioapic_82093aa.specs.Pins.{raise_of, accepted as entry_accepted}
+use Rattle.ioapic_82093aa.specs.Pins.{raise_of, pin_accepted}
 use Rattle.lapic.specs.declared.outcome.Shorthand.{Shorthand}
 use Rattle.lapic.specs.Messages.{is_taken, accepted}
 use Rattle.msi_decode.specs.Messages.{message_in}
@@ -126,7 +126,7 @@ module _ (Kind : Board → Type 0) where
 
     pub accept_pin_tells : (pin : ℕ) (t : Bool) → Tells Kind 0 0 (accept_pin pin t)
     accept_pin_tells pin true = λ b ws h.
-        let part = with_ioapic b.ioapic (entry_accepted (ioapic_of b.ioapic) pin) in
+        let part = with_ioapic b.ioapic (pin_accepted (ioapic_of b.ioapic) pin) in
         done_tells tt (with_part b Ioapic part) ws (kind b Ioapic part refl h)
     accept_pin_tells pin false = done_tells tt
 

@@ -10,7 +10,7 @@ use Rattle.irq_base.specs.declared.message.Source.{Source}
 use Rattle.pic_8259a.specs.Accesses.{with_pin}
 use Rattle.pic_8259a.specs.Pair.{pin_set}
 use Rattle.source_levels.specs.Holds.{Holds, hold, hold_cmp, number_of, is_high}
-use Rattle.source_levels.specs.HoldLemmas.{hold_cmp_total, hold_tied, tied_same, high_where_held, held_where_high}
+use Rattle.source_levels.proofs.HoldLemmas.{hold_cmp_total, hold_tied, tied_same, high_where_held, held_where_high}
 use Rattle.board_model.specs.Chips.{PicPart, chip_of, without_pins, master_high, slave_high, pair_of, ioapic_of}
 use Rattle.pic_8259a.specs.declared.pair.Pair.{Pair}
 use Rattle.board_raise.specs.Signal.{pic_raised, pic_let_go}

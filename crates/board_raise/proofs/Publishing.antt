@@ -11,7 +11,8 @@ use Rattle.irqfd_set.specs.Rows.{of_trigger}
 use Rattle.route_table.specs.Rows.{refusal_of, table_of, targets_of}
 use Rattle.route_table.specs.Pins.{gsi_of}
 use Rattle.route_table.specs.Tables.{targets_code}
-use Rattle.route_table.specs.Words.{is_route, bits_at}
+use Rattle.irq_bits.specs.Fields.{bits_of}
+use Rattle.route_table.specs.Words.{is_route}
 use Rattle.board_model.specs.declared.trigger.TriggerWord.{TriggerWord}
 use Rattle.board_model.specs.Registry.{RegistryPart}
 use Rattle.board_model.specs.Routing.{is_marked, trigger_of}
@@ -43,7 +44,7 @@ publishes r tick made routes irqfds watches low = ∣ words_tell r tick (record 
 -- the GSI of a trigger's word has twelve bits
 pub trigger_in-range : (word : ℕ) → IfSome (trigger_in word) (λ t. t.gsi < 4096)
 trigger_in-range word =
-    elim (nat_eq (bits_at word 0 0) 1) as (λ b. IfSome (if b then Some (record { gsi = bits_at word 12 1; resample = nat_eq (bits_at word 13 13) 1 }) else None) (λ (t : TriggerWord). t.gsi < 4096)) [
+    elim (nat_eq (bits_of word 0 0) 1) as (λ b. IfSome (if b then Some (record { gsi = bits_of word 12 1; resample = nat_eq (bits_of word 13 13) 1 }) else None) (λ (t : TriggerWord). t.gsi < 4096)) [
       | true ↦ omega arith
       | false ↦ tt
     ]

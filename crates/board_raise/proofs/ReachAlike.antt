@@ -13,7 +13,7 @@ use Rattle.irq_base.specs.declared.status.Cause.{Cause}
 use Rattle.irq_base.specs.declared.status.Cause.TheVariants.{NoProcessor, BadVector, Mode as BadMode}
 use Rattle.ioapic_82093aa.specs.declared.ioapic.Raise.{Raise}
 use Rattle.ioapic_82093aa.specs.declared.ioapic.Raise.TheVariants as raises
-use Rattle.ioapic_82093aa.specs.Pins.{raise_of, accepted as pin_accepted}
+use Rattle.ioapic_82093aa.specs.Pins.{raise_of, pin_accepted}
 use Rattle.lapic.specs.declared.outcome.Shorthand.{Shorthand}
 use Rattle.lapic.specs.declared.outcome.Shorthand.TheVariants.{Field, OwnOnly, All, Others}
 use Rattle.lapic.specs.Registers.{LocalApic, power_on, is_enabled}

@@ -10,5 +10,5 @@ pub mod OnRow
 pub mod InHand
 pub mod Told
 pub mod Lending
-pub mod OneBoard
+pub mod BoardRig
 pub mod RowSteps

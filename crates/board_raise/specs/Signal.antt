@@ -17,7 +17,7 @@ use Rattle.pic_8259a.specs.declared.chip.PinOutcome.TheVariants as outcomes
 use Rattle.pic_8259a.specs.Pair.{pin_set, pin_outcome}
 use Rattle.ioapic_82093aa.specs.declared.ioapic.Raise.{Raise}
 use Rattle.ioapic_82093aa.specs.declared.ioapic.Raise.TheVariants as raises
-use Rattle.ioapic_82093aa.specs.Pins.{raise_of, accepted}
+use Rattle.ioapic_82093aa.specs.Pins.{raise_of, pin_accepted}
 use Rattle.msi_decode.specs.Messages.{message_in}
 use Rattle.source_levels.specs.Holds.{hold}
 use Rattle.board_model.specs.Chips.{PicPart, pair_of, with_pair, IoapicPart, ioapic_of, with_ioapic}
@@ -67,7 +67,7 @@ is_accepted message answer = message.level
 
 -- remote IRR of the pin is set where that is so
 abbrev pub accept_pin : ℕ → Bool → Plan (Unit {0})
-accept_pin pin true = change Ioapic (λ part. with_ioapic part (accepted (ioapic_of part) pin))
+accept_pin pin true = change Ioapic (λ part. with_ioapic part (pin_accepted (ioapic_of part) pin))
 accept_pin pin false = done tt
 
 -- a target answers without a message sent, and the status shows

@@ -7,9 +7,9 @@
 //! holds.
 #![tactic(auto)]
 
+mod board_rig;
 mod lacks;
 mod on_rig;
-mod one;
 mod parts;
 mod rig;
 mod row;
@@ -22,9 +22,9 @@ ghost use Rattle.board_raise.specs.ReachLaws.{SendsReachTheSame, SignalsReachThe
 ghost use Rattle.board_raise.specs.Steady.{SendsSteadily};
 
 pub use board_model::TriggerWord;
+pub use board_rig::BoardRig;
 pub use lacks::Lacks;
 pub use on_rig::send;
-pub use one::OneBoard;
 pub use parts::{IoPart, Parts, PicPart, RegistryPart};
 pub use rig::Rig;
 pub use row::LapicRow;

@@ -77,6 +77,8 @@ pub fn send<R: Rig>(
     ensures fits { (shape : Shape) → LapicsFit shape (parts_of (R.held rig.old)) → LapicsFit shape (parts_of (R.held rig.new)) }
     ensures published { R.published rig.new ≡ R.published rig.old }
     ensures strays { R.astray rig.new ≡ R.astray rig.old }
+    ensures noted { R.noted rig.new ≡ R.noted rig.old }
+    ensures lacking_stays { IfErr result (λ _. (R.held rig.new ≡ R.held rig.old) × (R.wishes rig.new ≡ R.wishes rig.old)) }
 {
     if !is_taken(message.mode) {
         return Ok(Status::Ignored(Cause::Mode));

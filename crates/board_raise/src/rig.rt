@@ -1,5 +1,5 @@
 //! What lends the parts of a board to a call.
-ghost use Rattle.std.specs.Prelude.{◌≡◌, ℕ, List, ◌<◌, Bool, false, IsTrue, IfSome, is_some};
+ghost use Rattle.std.specs.Prelude.{◌≡◌, ℕ, List, Option, ◌<◌, Bool, false, IsTrue, IfSome, is_some};
 ghost use Rattle.std.specs.Borrow.{Lends, sem};
 ghost use Rattle.route_table.specs.Pins.{IsPin};
 ghost use Rattle.route_table.specs.Words.{is_route};
@@ -32,6 +32,9 @@ pub trait Rig {
     // the sets that its next wishes answer
     ghost wishes: { Self → Wishes };
 
+    // what it has noted of the words, by their indices; no call and no write to the lent parts changes it
+    ghost noted: { Self → List (Option ℕ) };
+
     // the same rig with other parts
     ghost with_held: { Self → Parts → Self };
 
@@ -49,6 +52,7 @@ pub trait Rig {
         requires { gsi < 4096 }
         ensures kept { held self.new ≡ held self.old }
         ensures stands { published self.new ≡ published self.old }
+        ensures noted { noted self.new ≡ noted self.old }
         ensures wishes { wishes self.new ≡ wishes self.old }
         ensures strays { astray self.new ≡ false → astray self.old ≡ false }
         ensures told { astray self.new ≡ false → result ≡ (routing_of_words (published self.old)).targets gsi }
@@ -59,6 +63,7 @@ pub trait Rig {
         requires { gsi < 4096 }
         ensures kept { held self.new ≡ held self.old }
         ensures stands { published self.new ≡ published self.old }
+        ensures noted { noted self.new ≡ noted self.old }
         ensures wishes { wishes self.new ≡ wishes self.old }
         ensures strays { astray self.new ≡ false → astray self.old ≡ false }
         ensures told { astray self.new ≡ false → result ≡ (routing_of_words (published self.old)).marked gsi };
@@ -68,6 +73,7 @@ pub trait Rig {
         requires { IsPin pin }
         ensures kept { held self.new ≡ held self.old }
         ensures stands { published self.new ≡ published self.old }
+        ensures noted { noted self.new ≡ noted self.old }
         ensures wishes { wishes self.new ≡ wishes self.old }
         ensures strays { astray self.new ≡ false → astray self.old ≡ false }
         ensures told { astray self.new ≡ false → result ≡ (routing_of_words (published self.old)).gsi_of pin }
@@ -78,6 +84,7 @@ pub trait Rig {
         requires { trigger < 256 }
         ensures kept { held self.new ≡ held self.old }
         ensures stands { published self.new ≡ published self.old }
+        ensures noted { noted self.new ≡ noted self.old }
         ensures wishes { wishes self.new ≡ wishes self.old }
         ensures strays { astray self.new ≡ false → astray self.old ≡ false }
         ensures told { astray self.new ≡ false → result ≡ (routing_of_words (published self.old)).trigger trigger }
@@ -89,6 +96,7 @@ pub trait Rig {
         ensures later { wishes self.new ≡ later_wishes (wishes self.old) }
         ensures kept { held self.new ≡ held self.old }
         ensures stands { published self.new ≡ published self.old }
+        ensures noted { noted self.new ≡ noted self.old }
         ensures strays { astray self.new ≡ astray self.old };
 
     ghost held_with: { (r : Self) (p : Parts) → held (with_held r p) ≡ p };
@@ -98,4 +106,6 @@ pub trait Rig {
     ghost wishes_with: { (r : Self) (p : Parts) → wishes (with_held r p) ≡ wishes r };
 
     ghost astray_with: { (r : Self) (p : Parts) → astray (with_held r p) ≡ astray r };
+
+    ghost noted_with: { (r : Self) (p : Parts) → noted (with_held r p) ≡ noted r };
 }

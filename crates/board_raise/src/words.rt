@@ -26,7 +26,7 @@ pub struct Words {
 #[tactic(auto, using(crate::proofs::Publishing::word_rules))]
 impl Words {
     ghost use Rattle.board_model.specs.Published.{routing_of_words};
-    ghost use Rattle.board_raise.specs.OneBoard.{words_in};
+    ghost use Rattle.board_raise.specs.BoardRig.{words_in};
 
     /// The words of a registry whose registrations name triggers and GSIs that there are.
     pub fn of(registry: RegistryPart, tick: u16) -> Words

@@ -6,7 +6,7 @@ ghost use Rattle.std.specs.Prelude.{◌≡◌, ◌≤◌, ◌<◌, length, IfOk}
 
 use Step::*;
 use ack_notifiers::Watches;
-use board_raise::{Lacks, LapicRow, OneBoard, Parts, RegistryPart, Rig, Words, send};
+use board_raise::{Lacks, LapicRow, BoardRig, Parts, RegistryPart, Rig, Words, send};
 use ioevent_set::IoEvents;
 use irq_base::{Cause, Message, Mode, NoMemory, Part, Status};
 use irq_bits::CpuSet;
@@ -111,7 +111,7 @@ fn opening_words(alloc: Global) -> Result<Words, NoMemory> {
 }
 
 /// A board of these processors, with its words at power-on and no other part in hand.
-pub fn board(alloc: Global, setups: &[Setup]) -> Result<OneBoard, NoMemory>
+pub fn board(alloc: Global, setups: &[Setup]) -> Result<BoardRig, NoMemory>
     requires few { length setups.now ≤ 64 }
     ensures { IfOk result (λ board. length board.parts.lapics ≡ length setups.now) }
 {
@@ -126,12 +126,12 @@ pub fn board(alloc: Global, setups: &[Setup]) -> Result<OneBoard, NoMemory>
         ioapic: None,
         lapics,
     };
-    Ok(OneBoard::new(parts, words))
+    Ok(BoardRig::new(parts, words))
 }
 
 /// Whether a message is sent with that status.
 fn is_sent(
-    board: &mut OneBoard,
+    board: &mut BoardRig,
     cpus: u16,
     message: &Message,
     from: Option<(u16, Shorthand)>,
@@ -208,7 +208,7 @@ fn is_answered(row: &mut LapicRow, n: u16, step: &Step) -> bool
 
 /// Whether a message of a processor is sent with that status.
 fn is_ipi_sent(
-    board: &mut OneBoard,
+    board: &mut BoardRig,
     cpus: u16,
     n: u16,
     high: u32,
@@ -227,7 +227,7 @@ fn is_ipi_sent(
 }
 
 /// Whether the board answers a step as it is told.
-fn answers(board: &mut OneBoard, cpus: u16, step: &Step) -> bool
+fn answers(board: &mut BoardRig, cpus: u16, step: &Step) -> bool
     requires few { cpus ≤ 64 }
     requires places { length board.old.parts.lapics ≡ cpus }
     ensures { length board.new.parts.lapics ≡ cpus }
@@ -246,7 +246,7 @@ fn answers(board: &mut OneBoard, cpus: u16, step: &Step) -> bool
 }
 
 /// The place of the first step that the board does not answer as it is told.
-fn first_wrong(board: &mut OneBoard, cpus: u16, steps: &[Step]) -> Option<usize>
+fn first_wrong(board: &mut BoardRig, cpus: u16, steps: &[Step]) -> Option<usize>
     requires few { cpus ≤ 64 }
     requires places { length board.old.parts.lapics ≡ cpus }
 {

@@ -10,7 +10,7 @@ use Rattle.irq_base.specs.declared.message.Targets.{Targets}
 use Rattle.pic_8259a.specs.declared.pair.Pair.{Pair}
 use Rattle.pic_8259a.specs.declared.chip.Place.TheVariants.{Slave}
 use Rattle.pic_8259a.specs.Priority.{top_of}
-use Rattle.pic_8259a.specs.Accesses.{acknowledged}
+use Rattle.pic_8259a.specs.Accesses.{level_acknowledged}
 use Rattle.pic_8259a.specs.Pair.{slave_pin, master_top, acked_pins, slave_cycle, cycle_by, cycle}
 use Rattle.route_table.specs.Rows.{Table, is_same, targets_of}
 use Rattle.route_table.specs.Pins.{has_pin, gsi_of}
@@ -134,16 +134,16 @@ module _ (table : Table) where
   pub cycle_of_pair : (p : Pair) → FewOfPair table (cycle_pins (cycle p).pins)
   cycle_of_pair p = by_master (master_top p)
     where
-      by_slave : (t : ℕ) → nat_eq t 2 ≡ true → (slave : Option ℕ) → FewOfPair table (cycle_pins (slave_cycle slave (record p { master = (acknowledged p.master t).after }) (acknowledged p.master t).pin).pins)
+      by_slave : (t : ℕ) → nat_eq t 2 ≡ true → (slave : Option ℕ) → FewOfPair table (cycle_pins (slave_cycle slave (record p { master = (level_acknowledged p.master t).after }) (level_acknowledged p.master t).pin).pins)
       by_slave t is None = master_of_pair p.master.auto_eoi t
       by_slave t is (Some s) = both_of_pair p.master.auto_eoi p.slave.auto_eoi t s is
 
       by_master : (top : Option ℕ) → FewOfPair table (cycle_pins (cycle_by top p).pins)
       by_master None = none_of_pair
-      by_master (Some t) = elim (nat_eq t 2) as (λ is. nat_eq t 2 ≡ is → FewOfPair table (cycle_pins (if is then slave_cycle (top_of p.slave Slave) (record p { master = (acknowledged p.master t).after }) (acknowledged p.master t).pin else record {
-        after = record p { master = (acknowledged p.master t).after };
+      by_master (Some t) = elim (nat_eq t 2) as (λ is. nat_eq t 2 ≡ is → FewOfPair table (cycle_pins (if is then slave_cycle (top_of p.slave Slave) (record p { master = (level_acknowledged p.master t).after }) (level_acknowledged p.master t).pin else record {
+        after = record p { master = (level_acknowledged p.master t).after };
         vector = p.master.base + t;
-        pins = acked_pins (acknowledged p.master t).pin None;
+        pins = acked_pins (level_acknowledged p.master t).pin None;
       }).pins)) [
         | true ↦ λ is. by_slave t is (top_of p.slave Slave)
         | false ↦ λ _. master_of_pair p.master.auto_eoi t

@@ -8,6 +8,8 @@ use Rattle.board_model.specs.Routing.{routing_of_registry}
 use Rattle.board_model.specs.Following.{shown_wishes, IsSteady}
 use Rattle.board_model.proofs.Followed.{shown_followed}
 use Rattle.board_raise.proofs.Manner.{Manner, Keeps, steady_of}
+use Rattle.board_model.specs.Run.{Log}
+use Rattle.board_step.specs.Laws.{StepsAreFollowed}
 use Rattle.board_step.specs.Step.{plan_on, outcome_of, counted, Step}
 use Rattle.board_step.specs.History.{wish_replied, wishes_told, wishes_shown, next_board, Leads, board_after}
 use Rattle.board_step.proofs.CallManner.{replies_in, writes_in, refuses_in, call_keeps, or_true}
@@ -31,11 +33,21 @@ wishes_are b e c s =
     ∙ ap (λ l. wishes_told (outcome_of b e s.wishes).log.events ++ wishes_replied l) (sym s.replied)
     ∙ all_shown (free e.call) (plan_on b e.caller e.call) b s.wishes (keeps_free b e.caller e.call)
 
+-- a step is followed by what its entry shows
+pub steps_are_followed : StepsAreFollowed
+steps_are_followed b e c s =
+    let same = shown_followed (plan_on b e.caller e.call) b s.wishes (calls_steadily b e.caller e.call) in
+    let log : (outcome_of b e (wishes_shown e)).log ≡ (outcome_of b e s.wishes).log = ap (λ ws. (outcome_of b e ws).log) (wishes_are b e c s) ∙ same.log in
+    record {
+      replied = ap (λ (l : Log). l.answers) log ∙ s.replied;
+      told = ap (λ (l : Log). l.events) log ∙ s.told;
+      logged = log;
+      leads = ap (λ ws. counted b e.call (outcome_of b e ws).board) (wishes_are b e c s) ∙ ap (counted b e.call) same.board ∙ s.leads;
+    }
+
 -- one step leads to the board that its entry tells
 pub next_is : (b : Board) (e : Entry) (c : Board) → Step b e c → next_board b e ≡ c
-next_is b e c s =
-    let same = shown_followed (plan_on b e.caller e.call) b s.wishes (calls_steadily b e.caller e.call) in
-    ap (λ ws. counted b e.call (outcome_of b e ws).board) (wishes_are b e c s) ∙ ap (counted b e.call) same.board ∙ s.leads
+next_is b e c s = (steps_are_followed b e c s).leads
 
 pub board_after_is_reached : (b : Board) (es : List Entry) (c : Board) → Leads b es c → board_after b es ≡ c
 board_after_is_reached b [] c leads = leads

@@ -11,11 +11,15 @@ use Rattle.board_model.specs.Run.{run, reaches}
 use Rattle.board_model.specs.Agreement.{RunsAlike}
 use Rattle.board_model.proofs.Alike.{agreeing_alike}
 use Rattle.board_model.proofs.Staying.{unreached_stays}
+use Rattle.board_model.specs.Registry.{RegistryPart}
+use Rattle.board_model.specs.Laws.{PublishTheSame}
 use Rattle.board_model.proofs.Words.{published_decides}
+use Rattle.board_model.proofs.Tables.{published_decides_the_table}
 use Rattle.board_step.specs.Calls.{plan_of}
 use Rattle.board_step.specs.Step.{would_publish, with_counts, plan_on, outcome_of, counted}
 use Rattle.board_step.specs.Sound.{IsSound}
-use Rattle.board_step.specs.Laws.{StaysOutsideReach, AgreesForCall, DependsOnReach}
+use Rattle.board_step.specs.Laws.{StaysOutsideReach, SamePart, AgreesForCall, DependsOnReach}
+use Rattle.board_step.specs.Reach.{reach}
 use Rattle.board_step.proofs.ReachCalls.{reach_is_table}
 
 -- to count a call changes no part
@@ -38,6 +42,30 @@ stays_outside_reach b e c q step outside =
     sym (ap (λ (d : Board). part_of d q) step.leads)
     ∙ counted_part (would_publish b e.call) (outcome_of b e step.wishes).board q
     ∙ unreached_stays (plan_on b e.caller e.call) b step.wishes q (reach_is_table b e.caller e.call step.wishes q ∙ outside)
+
+-- sound boards that publish the same words, and have a part the same, have it whole
+whole_part : (b d : Board) → PublishTheSame b.registry d.registry b.shape.tick d.shape.tick → (q : Part) → SamePart b d q → part_of b q ≡ part_of d q
+whole_part b d both Registry same =
+    let table = published_decides_the_table b.registry d.registry b.shape.tick d.shape.tick both in
+    λ i. record { table = table i; irqfds = same.irqfds i; watches = same.watches i; ioevents = same.ioevents i }
+whole_part b d both Counters same = same
+whole_part b d both Tick same = same
+whole_part b d both Pic same = same
+whole_part b d both Ioapic same = same
+whole_part b d both (Lapic n) same = same
+
+-- parts that are equal are the same
+pub equal_part : (b d : Board) (q : Part) → part_of b q ≡ part_of d q → SamePart b d q
+equal_part b d Registry same = record {
+  irqfds = ap (λ (r : RegistryPart). r.irqfds) same;
+  watches = ap (λ (r : RegistryPart). r.watches) same;
+  ioevents = ap (λ (r : RegistryPart). r.ioevents) same;
+}
+equal_part b d Counters same = same
+equal_part b d Tick same = same
+equal_part b d Pic same = same
+equal_part b d Ioapic same = same
+equal_part b d (Lapic n) same = same
 
 -- boards of one shape that publish the same words have one plan for a call
 one_plan : (b d : Board) (caller : Caller) (call : Call) → IsSound b → IsSound d → AgreesForCall b d caller call → plan_on d caller call ≡ plan_on b caller call
@@ -64,7 +92,7 @@ depends_on_reach b d e c sound other agrees in_limits step = record {
   parts = λ q within.
       counted_part (would_publish d e.call) (outcome_of d e step.wishes).board q
       ∙ ap (λ m. part_of (run m d step.wishes).board q) same
-      ∙ sym (alike.after q (agrees.parts q within))
+      ∙ sym (alike.after q (whole q within))
       ∙ sym (counted_part (would_publish b e.call) (outcome_of b e step.wishes).board q)
       ∙ ap (λ (x : Board). part_of x q) step.leads;
 }
@@ -72,11 +100,17 @@ depends_on_reach b d e c sound other agrees in_limits step = record {
     same : plan_on d e.caller e.call ≡ plan_on b e.caller e.call
     same = one_plan b d e.caller e.call sound other agrees
 
+    both : PublishTheSame b.registry d.registry b.shape.tick d.shape.tick
+    both = record { sound = sound.registry; other_sound = other.registry; words = agrees.words }
+
+    whole : (q : Part) → reach b e.caller e.call q ≡ true → part_of b q ≡ part_of d q
+    whole q within = whole_part b d both q (agrees.parts q within)
+
     lapics : length b.lapics ≡ length d.lapics
     lapics = sound.lapics.places ∙ ap (λ shape. shape.cpus) agrees.shape ∙ sym other.lapics.places
 
     alike : RunsAlike (plan_on b e.caller e.call) (plan_on b e.caller e.call) b d step.wishes
     alike = agreeing_alike (plan_on b e.caller e.call) b d step.wishes (record {
       lapics = lapics;
-      parts = λ q within. agrees.parts q (sym (reach_is_table b e.caller e.call step.wishes q) ∙ within);
+      parts = λ q within. whole q (sym (reach_is_table b e.caller e.call step.wishes q) ∙ within);
     })

@@ -23,7 +23,7 @@ use Rattle.ack_notifiers.specs.Rows as watches
 use Rattle.ioevent_set.specs.declared.row.IoRow.{IoRow}
 use Rattle.ioevent_set.specs.Rows as ioevents
 use Rattle.route_table.specs.Rows.{targets_of}
-use Rattle.route_table.specs.Sound.{no_reason}
+use Rattle.route_table.proofs.Sound.{no_reason}
 use Rattle.event_counter.specs.Counters.{taken}
 use Rattle.board_model.specs.Registry.{RegistryPart}
 use Rattle.board_model.specs.Routing.{routing_of_registry}

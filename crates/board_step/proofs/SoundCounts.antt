@@ -2,8 +2,7 @@
 use Rattle.std.proofs.Common.{◌≡◌, ℕ, ◌+◌, ◌-◌, ◌^◌, ◌≤◌, zero, suc, false, true≢false, inl, inr, List, [], ◌∷◌, length, min, All, Some, refl, sym, ap, subst, ◌∙◌, arith, length-set}
 use Rattle.std.specs.Prelude.{IsTrue, ◌⊎◌, slice_get, slice_set, slice_index}
 use Rattle.std.proofs.lemmas.List.Elements.{All-set}
-use Rattle.irq_base.specs.Counts.{signalled}
-use Rattle.event_counter.specs.Counters.{signalled_all}
+use Rattle.irq_base.specs.Counts.{signalled, signalled_all}
 use Rattle.board_model.specs.Registry.{RegistryPart}
 use Rattle.board_step.specs.Refusals.{is_trigger}
 

@@ -9,7 +9,7 @@ use Rattle.irq_base.specs.declared.event.Pin.{Pin}
 use Rattle.irq_base.specs.declared.message.Source.{Source}
 use Rattle.irq_base.specs.declared.message.Source.TheVariants.{Resample}
 use Rattle.source_levels.specs.Holds.{Hold, Holds, hold, hold_cmp}
-use Rattle.source_levels.specs.HoldLemmas.{hold_cmp_total, hold_cmp-IsAntisymmetric, tied_same}
+use Rattle.source_levels.proofs.HoldLemmas.{hold_cmp_total, hold_cmp-IsAntisymmetric, tied_same}
 use Rattle.board_model.specs.Registry.{RegistryPart}
 use Rattle.board_step.specs.Sound.{HasResampler, HoldsStand}
 

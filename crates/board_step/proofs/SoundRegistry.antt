@@ -20,8 +20,8 @@ use Rattle.ack_notifiers.specs.Rows.{watched, has_counter}
 use Rattle.route_table.specs.Words.{is_below, is_route_of}
 use Rattle.route_table.specs.Rows.{Table, is_same, targets_of}
 use Rattle.route_table.specs.Pins.{has_pin, gsi_of}
-use Rattle.route_table.specs.Sound.{sound_of}
-use Rattle.route_table.specs.TableLaws.{is_same-some}
+use Rattle.route_table.proofs.Sound.{sound_of}
+use Rattle.route_table.proofs.TableLaws.{is_same-some}
 use Rattle.route_table.proofs.Given.{gsi_of_pin, pin_of_gsi}
 use Rattle.board_model.specs.declared.trigger.TriggerWord.{TriggerWord}
 use Rattle.board_model.specs.Registry.{RegistryPart}

@@ -35,7 +35,7 @@ use Rattle.board_step.proofs.SoundAcks.{inject_tick_keeps}
 use Rattle.board_step.proofs.SoundCalls.{line_keeps, message_keeps, write_keeps, take_keeps, tick_mode_keeps, eoi_keeps, inta_keeps, next_keeps, port_out_keeps, port_in_keeps, store_keeps, load_keeps}
 use Rattle.board_step.proofs.SoundChanges.{Whole, kept_whole, unless_whole, less_of, attach_whole, detach_whole, watch_whole, unwatch_whole, assign_whole}
 use Rattle.board_step.proofs.SoundLeaving.{deassign_whole, reroute_whole}
-use Rattle.route_table.specs.Sound.{no_reason}
+use Rattle.route_table.proofs.Sound.{no_reason}
 
 -- ---- a tick more may be pending
 

@@ -12,11 +12,12 @@ use Rattle.irq_base.specs.declared.refusal.Refusal.TheVariants.{Full}
 use Rattle.route_table.specs.Words.{is_route}
 use Rattle.route_table.specs.Rows.{gsi_in, pic_in, ioapic_in, msi_in, row_reasons, reasons_after, refusal_of, table_of, targets_of}
 use Rattle.route_table.specs.Standing.{with_owner, fits_if, word_with, Stands}
-use Rattle.route_table.specs.StandingLaws.{stands-snoc}
-use Rattle.route_table.specs.Sound.{no_reason, kept_of}
-use Rattle.route_table.specs.TableLaws.{table_in-rows}
-use Rattle.route_table.specs.Filled.{stands_none, sends_to_routes}
-use Rattle.route_table.specs.Defaults.{pic_rows, ioapic_rows, default_rows, default_rows-kept}
+use Rattle.route_table.proofs.StandingLaws.{stands-snoc}
+use Rattle.route_table.proofs.Sound.{no_reason, kept_of}
+use Rattle.route_table.proofs.TableLaws.{table_in-rows}
+use Rattle.route_table.proofs.Filled.{stands_none, sends_to_routes}
+use Rattle.route_table.specs.Defaults.{pic_rows, ioapic_rows, default_rows}
+use Rattle.route_table.proofs.DefaultLaws.{default_rows-kept}
 use Rattle.board_model.specs.Published.{IsSoundTable}
 use Rattle.board_step.specs.Laws.{PayloadFits}
 

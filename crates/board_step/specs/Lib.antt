@@ -6,7 +6,12 @@ pub mod Accesses
 pub mod Calls
 pub mod Step
 pub mod Reach
+pub mod Publications
 pub mod Sound
 pub mod History
 pub mod Laws
-pub mod HistoryLaws
+pub mod Bodies
+pub mod Whole
+pub mod Opening
+pub mod Owned
+pub mod Due

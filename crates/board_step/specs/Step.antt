@@ -8,6 +8,8 @@ use Rattle.irq_base.specs.declared.call.Call.TheVariants.{Write, Assign, Deassig
 use Rattle.irq_base.specs.declared.call.Caller.{Caller}
 use Rattle.irq_base.specs.declared.lists.Entry.{Entry}
 use Rattle.irq_base.specs.declared.refusal.Refusal.{Refusal}
+use Rattle.irq_base.specs.declared.reply.Reply.{Reply}
+use Rattle.irq_base.specs.declared.reply.Reply.TheVariants.{Done, Removed}
 use Rattle.irq_base.specs.declared.reply.Spent.{Spent}
 use Rattle.irq_base.specs.declared.reply.Spent.TheVariants.{Calls, Publications}
 use Rattle.irqfd_set.specs.Rows.{of_trigger, named_row}
@@ -93,3 +95,28 @@ pub record Step (b : Board) (e : Entry) (c : Board) : Type 0 where
   pub replied : (outcome_of b e wishes).log.answers ≡ e.reply ∷ []
   pub told : (outcome_of b e wishes).log.events ≡ e.events
   pub leads : counted b e.call (outcome_of b e wishes).board ≡ c
+
+-- ---- what an entry shows
+
+-- whether a reply says that a call was done
+abbrev pub is_done : Reply → Bool
+is_done Done = true
+is_done _ = false
+
+-- whether a reply says that a row was removed
+abbrev pub is_removed : Reply → Bool
+is_removed (Removed n) = nat_eq n 1
+is_removed _ = false
+
+-- whether a call that was answered so was a publication
+abbrev pub did_publish : Call → Reply → Bool
+did_publish (Reroute rows) reply = is_done reply
+did_publish (Assign trigger gsi resample) reply = is_done reply
+did_publish (Watch counter gsi) reply = is_done reply
+did_publish (Unwatch counter gsi) reply = is_done reply
+did_publish (Deassign trigger gsi) reply = is_removed reply
+did_publish _ reply = false
+
+-- whether an entry is a publication
+abbrev pub is_publication : Entry → Bool
+is_publication e = did_publish e.call e.reply

@@ -1,6 +1,6 @@
 //! The laws of steps: functions with no body, the contract of each being a law.
 
-ghost use Rattle.board_step.specs.Laws.{LeadsToOne, CallsSteadily, BoardAfterIsReached, AnswersOnce, AlwaysAnswers, StepsTellFew, RefusesFirst, RefusedRightly, WordsStay};
+ghost use Rattle.board_step.specs.Laws.{LeadsToOne, CallsSteadily, StepsAreFollowed, BoardAfterIsReached, AnswersOnce, AlwaysAnswers, StepsTellFew, RefusesFirst, RefusedRightly, WordsStay};
 
 /// A law: an entry leads from a board to one board at most.
 pub fn leads_to_one()
@@ -10,6 +10,12 @@ pub fn leads_to_one()
 /// A law: the choices of a call can be followed, whatever it does: to wish for what it reached is to reach it again.
 pub fn calls_steadily()
     ensures { CallsSteadily }
+{}
+
+/// A law: whatever wishes made a step, under those that its entry shows it has the same reply, events, log and board. So a step
+/// with a given reply and events is there exactly where the run under what they show has them.
+pub fn steps_are_followed()
+    ensures { StepsAreFollowed }
 {}
 
 /// A law: a history leads from a board to one board at most, and that is the one which its entries tell.

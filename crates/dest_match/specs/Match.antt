@@ -1,13 +1,10 @@
 -- Which processors a message is for (SDM volume 3, determining IPI destination: physical and logical destination mode).
 use Rattle.std.specs.Prelude.{ℕ, ◌+◌, ◌-◌, ◌/◌, ◌%◌, ◌^◌, ◌==◌, nat_lt, Bool, true, false, ◌&&◌, ◌||◌, [], ◌∷◌, if◌then◌else◌}
 use Rattle.std.specs.List.{list_any}
+use Rattle.irq_bits.specs.Fields.{bits_of}
 use Rattle.irq_bits.specs.Members.{is_set}
 use Rattle.irq_base.specs.declared.message.Message.{Message}
 use Rattle.irq_base.specs.declared.message.DestView.{DestView}
-
--- bits `high` to `low` of a word
-abbrev pub bits_of : ℕ → ℕ → ℕ → ℕ
-bits_of word high low = word / 2 ^ low % 2 ^ (high + 1 - low)
 
 -- some of the bits 0 to 7 is set in both bytes
 unfoldable pub share_a_bit : ℕ → ℕ → Bool

@@ -1,3 +1,4 @@
 pub mod Masks
 pub mod Places
 pub mod Halves
+pub mod PowerOn

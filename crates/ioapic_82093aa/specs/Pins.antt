@@ -1,11 +1,12 @@
 -- The I/O APIC whole: accesses, pins, sends and acknowledges.
 -- 82093AA data sheet, and SDM volume 3, level-triggered interrupts and EOI.
-use Rattle.std.specs.Prelude.{ℕ, ◌*◌, ◌/◌, ◌%◌, ◌^◌, Bool, false, not, ◌&&◌, ◌||◌, nat_eq, if◌then◌else◌, Some, None, replicate, slice_index_or, slice_set}
+use Rattle.std.specs.Prelude.{◌≡◌, ℕ, ◌*◌, ◌/◌, ◌%◌, ◌^◌, Bool, false, not, ◌&&◌, ◌||◌, nat_eq, if◌then◌else◌, Some, None, map, replicate, slice_index_or, slice_set}
 use Rattle.std.specs.declared.option.Option.{Option}
 use Rattle.std.specs.FinSet as set
 use Rattle.irq_base.specs.declared.message.Message.{Message}
+use Rattle.reg_table.specs.Rows.{resets}
 use Rattle.ioapic_82093aa.specs.Entries.{entry_at_power_on, low_word, high_word, low_written, high_written, message_of}
-use Rattle.ioapic_82093aa.specs.Registers.{register_of}
+use Rattle.ioapic_82093aa.specs.Registers.{register_of, register_rows}
 use Rattle.ioapic_82093aa.specs.declared.entry.Entry.{Entry}
 use Rattle.ioapic_82093aa.specs.declared.ioapic.Ioapic.{Ioapic}
 use Rattle.ioapic_82093aa.specs.declared.ioapic.Raise.{Raise}
@@ -62,6 +63,11 @@ write_to io offset value =
     else if nat_eq offset 0x10 then register_written io (register_of io.selected) value
     else record { after = io; pin = None }
 
+-- what each register reads at power-on, once it is selected, is the value of its row
+abbrev pub RegistersStartAsTold : Type 0
+RegistersStartAsTold =
+    map (λ row. read_from (write_to ioapic_at_power_on 0x00 row.offset).after 0x10) register_rows ≡ resets register_rows
+
 -- ---- pins
 
 -- a pin that becomes high
@@ -81,8 +87,9 @@ abbrev pub raise_of : Ioapic → ℕ → Raise
 raise_of io pin = if (entry_at io pin).masked then Masked else if stands io pin then Stood else Send (message_of (entry_at io pin))
 
 -- the processors took a message of the pin: a level-triggered entry sets remote IRR
-abbrev pub accepted : Ioapic → ℕ → Ioapic
-accepted io pin = with_entry_at io pin (record (entry_at io pin) { remote_irr = (entry_at io pin).level || (entry_at io pin).remote_irr })
+abbrev pub pin_accepted : Ioapic → ℕ → Ioapic
+pin_accepted io pin =
+    with_entry_at io pin (record (entry_at io pin) { remote_irr = (entry_at io pin).level || (entry_at io pin).remote_irr })
 
 -- an end of interrupt clears remote IRR
 abbrev pub acknowledged : Ioapic → ℕ → Ioapic

@@ -1,8 +1,9 @@
 //! The chip.
 ghost use Rattle.std.specs.Prelude.{◌≡◌, ℕ, ◌<◌, IsTrue};
 ghost use Rattle.ioapic_82093aa.specs.Entries.{WordsTellTheEntry};
-ghost use Rattle.ioapic_82093aa.specs.Registers.{register_of};
-ghost use Rattle.ioapic_82093aa.specs.Pins.{ioapic_at_power_on, read_from, write_to, word_of_register, register_written, raised, raise_of, lowered, accepted, acknowledged, has_vector, resend_of};
+ghost use Rattle.reg_table.specs.Rows.{ResetsAreReadable};
+ghost use Rattle.ioapic_82093aa.specs.Registers.{register_of, register_rows};
+ghost use Rattle.ioapic_82093aa.specs.Pins.{ioapic_at_power_on, read_from, write_to, word_of_register, register_written, raised, raise_of, lowered, pin_accepted, acknowledged, has_vector, resend_of, RegistersStartAsTold};
 
 use crate::entry::Entry;
 use crate::pins::{PINS, Pin, Pins};
@@ -143,7 +144,7 @@ impl Ioapic {
     /// The processors took the message of a pin, of 0 to 23: a level-triggered entry sets remote IRR.
     pub fn accepted(&mut self, pin: u8)
         requires { pin < 24 }
-        ensures { self.new ≡ accepted self.old pin }
+        ensures { self.new ≡ pin_accepted self.old pin }
     {
         let entry = &mut self.entries[pin as usize];
         entry.remote_irr = entry.level || entry.remote_irr;
@@ -189,4 +190,11 @@ impl Ioapic {
 #[tactic(auto, using(crate::proofs::Halves::words_tell_the_entry))]
 pub fn words_tell_the_entry()
     ensures { WordsTellTheEntry }
+{}
+
+/// A law: what each register reads at power-on is the value of its row in the table, whose bits can all be read.
+#[tactic(auto, using(crate::proofs::PowerOn::registers_start_as_told))]
+pub fn registers_start_as_told()
+    ensures values { RegistersStartAsTold }
+    ensures readable { ResetsAreReadable register_rows }
 {}

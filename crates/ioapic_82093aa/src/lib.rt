@@ -11,4 +11,4 @@ mod ioapic;
 mod pins;
 mod registers;
 
-pub use ioapic::{Ioapic, Raise, words_tell_the_entry};
+pub use ioapic::{Ioapic, Raise, registers_start_as_told, words_tell_the_entry};

@@ -17,6 +17,11 @@ is_of_processor Inta = true
 is_of_processor Eoi = true
 is_of_processor _ = false
 
+-- the callers of a board: devices below 64 and its processors
+abbrev pub is_there : Caller → Shape → Bool
+is_there (Device d) shape = nat_lt d 64
+is_there (Cpu n) shape = nat_lt n shape.cpus
+
 -- a device below 64 or a processor of the board; the acknowledge cycle of the 8259A pair is for processor 0
 abbrev pub is_allowed : Caller → Call → Shape → Bool
 is_allowed (Device d) call shape = nat_lt d 64 && not (is_of_processor call)

@@ -1,4 +1,5 @@
 pub mod Callers
 pub mod Counts
+pub mod Faces
 pub mod Refusals
 pub mod Text

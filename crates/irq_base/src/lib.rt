@@ -7,6 +7,7 @@
 
 mod call;
 mod event;
+mod face;
 mod fault;
 mod lists;
 mod message;
@@ -18,6 +19,7 @@ mod tally;
 
 pub use call::{Call, Caller, Row, Space};
 pub use event::{Event, Events, Pin};
+pub use face::{Face, Stops};
 pub use fault::LineCause;
 pub use lists::{Bytes, Entry, EventList, History, Items, NoMemory, Rows};
 pub use message::{DestView, Message, Mode, MsiWord, Source, Targets};

@@ -24,12 +24,12 @@ pub enum Status {
         stood: CpuSet,
         pic: bool,
     },
-    /// The request stood already wherever it went, at these processors.
+    /// No target newly took the request and some had it already, these processors among them.
     Coalesced {
         stood: CpuSet,
     },
     Ignored(Cause),
-    /// The line went low.
+    /// The source lets the line go.
     Lowered,
 }
 

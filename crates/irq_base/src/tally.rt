@@ -7,7 +7,8 @@ pub trait Tally {
     // The count of each counter.
     ghost counts: { Self → List ℕ };
 
-    /// Adds one to the counter, which stops at 2^64 - 2 (eventfd(2), the greatest count).
+    /// Adds one to the counter. At 2^64 - 2, the greatest count of eventfd(2), it stays: where a write to an eventfd would
+    /// wait, a board cannot (this board's own rule).
     fn signal(&mut self, c: u16)
         requires { c < length (counts self.old) }
         ensures { counts self.new ≡ signalled (counts self.old) c };

@@ -1,7 +1,8 @@
 -- How a local APIC takes a message, and the message that it sends itself (SDM volume 3, interrupt acceptance for fixed
 -- interrupts, error handling, interrupt command register).
-use Rattle.std.specs.Prelude.{ℕ, ◌+◌, ◌-◌, ◌/◌, ◌%◌, ◌^◌, ◌==◌, Bool, true, false, not, nat_lt, bit_or, if◌then◌else◌}
+use Rattle.std.specs.Prelude.{ℕ, ◌^◌, ◌==◌, Bool, true, false, not, nat_lt, bit_or, if◌then◌else◌}
 use Rattle.std.specs.FinSet as set
+use Rattle.irq_bits.specs.Fields.{bits_of}
 use Rattle.irq_bits.specs.Members.{Numbers, is_set}
 use Rattle.irq_base.specs.declared.message.Mode.{Mode}
 use Rattle.irq_base.specs.declared.message.Mode.TheVariants.{Fixed, Lowest, Smi, Nmi, Init, Startup, ExtInt, Reserved}
@@ -20,7 +21,8 @@ abbrev pub is_nmi : Mode → Bool
 is_nmi Nmi = true
 is_nmi _ = false
 
--- the modes of messages that a local APIC takes
+-- the modes of messages that a local APIC takes; that SMI, INIT, start-up and ExtINT messages are left out is this board's own
+-- rule
 abbrev pub is_taken : Mode → Bool
 is_taken Fixed = true
 is_taken Lowest = true
@@ -62,10 +64,6 @@ accepted a m =
 -- what a destination is compared with
 abbrev pub dest_view : LocalApic → DestView
 dest_view a = record { number = a.number; enabled = is_enabled a; ldr = a.registers.ldr; dfr = a.registers.dfr; ppr = ppr_of a }
-
--- bits `high` to `low` of a word
-abbrev pub bits_of : ℕ → ℕ → ℕ → ℕ
-bits_of word high low = word / 2 ^ low % 2 ^ (high + 1 - low)
 
 -- the delivery mode that ICR names by a number
 abbrev pub mode_of : ℕ → Mode

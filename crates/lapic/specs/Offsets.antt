@@ -1,12 +1,13 @@
 -- What a load and a store at an offset do (SDM volume 3, local APIC register address map).
-use Rattle.std.specs.Prelude.{ℕ, ◌-◌, ◌*◌, ◌^◌, bit_and, bit_or, Some, None}
+use Rattle.std.specs.Prelude.{◌≡◌, ℕ, ◌-◌, ◌*◌, ◌^◌, ◌==◌, ◌&&◌, bit_and, bit_or, if◌then◌else◌, map, Some, None}
 use Rattle.std.specs.declared.option.Option.{Option}
 use Rattle.irq_bits.specs.Members.{row_of, greatest_vector}
+use Rattle.reg_table.specs.declared.row.RegRow.{RegRow}
 use Rattle.lapic.specs.declared.register.Register.{Register}
 use Rattle.lapic.specs.declared.register.Register.TheVariants.{Id, Tpr, Ppr, Eoi, Ldr, Dfr, Svr, Isr, Tmr, Irr, Esr, IcrLow, IcrHigh, Lint0, Lint1}
 use Rattle.lapic.specs.declared.outcome.Effect.{Effect}
 use Rattle.lapic.specs.declared.outcome.Effect.TheVariants.{Plain, Ended, Send}
-use Rattle.lapic.specs.Registers.{Registers, LocalApic, row_for, reset_of, register_at}
+use Rattle.lapic.specs.Registers.{Registers, LocalApic, row_for, reset_of, register_at, register_rows, power_on}
 use Rattle.lapic.specs.Priority.{ppr_of, ended}
 use Rattle.lapic.specs.Messages.{ipi_of}
 
@@ -83,3 +84,17 @@ effect_at a None value = Plain
 -- what a store at an offset brings about
 abbrev pub store_effect : LocalApic → ℕ → ℕ → Effect
 store_effect a offset value = effect_at a (register_at offset) value
+
+-- ---- power-on
+
+-- the value of a row on processor `number` at power-on: the identity is the number, LINT0 of processor 0 is unmasked in mode
+-- ExtINT, and any other is as the row tells
+abbrev pub start_of : ℕ → RegRow → ℕ
+start_of number row =
+    if row.offset == 0x20 then number * 2 ^ 24
+    else if row.offset == 0x350 && number == 0 then 0x00000700
+    else row.reset
+
+-- what each register loads at power-on is the value of its row
+abbrev pub RegistersStartAsTold : ℕ → Type 0
+RegistersStartAsTold number = map (λ row. load_of (power_on number) row.offset) register_rows ≡ map (start_of number) register_rows

@@ -1,5 +1,5 @@
 -- A local APIC and the table of its registers (SDM volume 3, local APIC register address map).
-use Rattle.std.specs.Prelude.{ℕ, ◌+◌, ◌*◌, Bool, true, false, ◌==◌, nat_lt, List, [], ◌∷◌, if◌then◌else◌, refl}
+use Rattle.std.specs.Prelude.{ℕ, ◌+◌, ◌*◌, Bool, true, false, ◌==◌, nat_lt, List, [], ◌∷◌, map, if◌then◌else◌, refl}
 use Rattle.std.specs.declared.option.Option.{Option}
 use Rattle.std.specs.Coded.{Coded, code_by, coded×, coded_ℕ, coded_bool}
 use Rattle.std.specs.List.{find}
@@ -36,8 +36,8 @@ abbrev pub row : ℕ → ℕ → ℕ → RegRow
 row offset writable reset = record { offset = offset; readable = 0xffffffff; writable = writable; reset = reset }
 
 -- each register's offset, writable bits and value at power-on; the EOI register alone is not to be read, and the identity,
--- PPR and LINT0 of processor 0 have values of their own. The version and that the identity cannot be written are this board's
--- own rule
+-- PPR and LINT0 of processor 0 have values of their own. The version, that the identity cannot be written, and that the CMCI,
+-- timer, thermal, performance and error entries are left out, each reading as at power-on, are this board's own rule
 abbrev pub row_for : Register → RegRow
 row_for Id = row 0x20 0 0
 row_for Version = row 0x30 0 0x00050014
@@ -80,6 +80,10 @@ is_there _ = true
 -- the register that lies at an offset, or none
 unfoldable pub register_at : ℕ → Option Register
 register_at offset = find (λ register. (row_for register).offset == offset) all_registers
+
+-- the rows of all registers
+abbrev pub register_rows : List RegRow
+register_rows = map row_for all_registers
 
 -- a register's value at power-on
 abbrev pub reset_of : Register → ℕ

@@ -2,10 +2,11 @@
 ghost use Rattle.std.specs.Prelude.{◌≡◌, ℕ, ◌<◌, false, IsTrue};
 ghost use Rattle.std.specs.FinSet as set;
 ghost use Rattle.irq_bits.specs.Members.{greatest_vector};
-ghost use Rattle.lapic.specs.Registers.{power_on, row_for, is_there, is_enabled};
+ghost use Rattle.reg_table.specs.Rows.{ResetsAreReadable};
+ghost use Rattle.lapic.specs.Registers.{power_on, row_for, register_rows, is_there, is_enabled};
 ghost use Rattle.lapic.specs.Priority.{ppr_of, greatest_above, giveable_of, given, ended};
 ghost use Rattle.lapic.specs.Messages.{is_taken, answer_to, accepted, dest_view, with_request, ipi_of, mode_of, shorthand_of};
-ghost use Rattle.lapic.specs.Offsets.{value_of, stored, effect_of, load_of, store_to, store_effect};
+ghost use Rattle.lapic.specs.Offsets.{value_of, stored, effect_of, load_of, store_to, store_effect, RegistersStartAsTold};
 
 use crate::outcome::{Accepted, Effect, Ipi, Shorthand};
 use crate::register::{Register, register_at};
@@ -295,6 +296,20 @@ impl Lapic {
         Effect::Plain
     }
 
+    /// The same local APIC once more.
+    pub fn copy(&self) -> Lapic
+        ensures { result ≡ self.now }
+    {
+        Lapic {
+            number: self.number,
+            irr: self.irr.copy(),
+            isr: self.isr.copy(),
+            tmr: self.tmr.copy(),
+            nmi: self.nmi,
+            registers: self.registers,
+        }
+    }
+
     /// Makes the APIC equal to the other.
     pub fn copy_from(&mut self, other: &Lapic)
         ensures { self.new ≡ other.now }
@@ -365,3 +380,11 @@ fn ipi_of(low: u32, high: u32) -> Ipi
         to: shorthand_of((low >> 18 & 3) as u8),
     }
 }
+
+/// A law: what each register loads at power-on on processor `number` is the value of its row in the table, the identity
+/// and LINT0 of processor 0 having values of their own, and the bits of the rows' values can all be read.
+#[tactic(auto, using(crate::proofs::PowerOn::power_on_rules))]
+pub fn registers_start_as_told(number: u16)
+    ensures values { RegistersStartAsTold number }
+    ensures readable { ResetsAreReadable register_rows }
+{}

@@ -10,5 +10,5 @@ mod chip;
 mod outcome;
 mod register;
 
-pub use chip::Lapic;
+pub use chip::{Lapic, registers_start_as_told};
 pub use outcome::{Accepted, Effect, Ipi, Shorthand};

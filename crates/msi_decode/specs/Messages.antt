@@ -1,14 +1,11 @@
 -- The message that an address and a payload stand for (SDM volume 3, message address and message data register formats).
 use Rattle.std.specs.Prelude.{ℕ, ◌+◌, ◌-◌, ◌/◌, ◌%◌, ◌^◌, ◌==◌, Bool, true, false, ◌&&◌, if◌then◌else◌, Some, None}
 use Rattle.std.specs.declared.option.Option.{Option}
+use Rattle.irq_bits.specs.Fields.{bits_of}
 use Rattle.irq_bits.specs.Members.{is_set}
 use Rattle.irq_base.specs.declared.message.Mode.{Mode}
 use Rattle.irq_base.specs.declared.message.Mode.TheVariants.{Fixed, Lowest, Smi, Nmi, Init, ExtInt, Reserved}
 use Rattle.irq_base.specs.declared.message.Message.{Message}
-
--- bits `high` to `low` of a word
-abbrev pub bits_of : ℕ → ℕ → ℕ → ℕ
-bits_of word high low = word / 2 ^ low % 2 ^ (high + 1 - low)
 
 -- the delivery mode of a number; 011 and 110 are reserved
 abbrev pub mode_of : ℕ → Mode
@@ -26,7 +23,8 @@ hint_in address = is_set address 3
 abbrev pub logical_in : ℕ → Bool
 logical_in address = is_set address 2
 
--- the fields of the payload: vector in bits 7 to 0, mode in bits 10 to 8, level in bit 15
+-- the fields of the payload: vector in bits 7 to 0, mode in bits 10 to 8, level in bit 15; bit 14, which tells assert from
+-- deassert, is not applied (this board's own rule)
 abbrev pub vector_in : ℕ → ℕ
 vector_in payload = bits_of payload 7 0
 

@@ -3,7 +3,8 @@
 #![tactic(auto)]
 
 ghost use Rattle.std.specs.Prelude.{◌≡◌, ◌≢◌, ℕ, ◌↔◌, Some, None, IsErr, MatchResult};
-ghost use Rattle.msi_decode.specs.Messages.{bits_of, mode_of, message_of, redirected, triggered};
+ghost use Rattle.irq_bits.specs.Fields.{bits_of};
+ghost use Rattle.msi_decode.specs.Messages.{mode_of, message_of, redirected, triggered};
 
 use irq_base::{Message, Mode, MsiWord};
 

@@ -19,7 +19,7 @@ find_same_test p q xs same i = find (λ n. same n i) xs
 any_same_test : (p q : ℕ → Bool) (xs : List ℕ) → ((n : ℕ) → p n ≡ q n) → list_any p xs ≡ list_any q xs
 any_same_test p q xs same i = list_any (λ n. same n i) xs
 
-find_nothing : (p : ℕ → Bool) (xs : List ℕ) → ((n : ℕ) → p n ≡ false) → find p xs ≡ None
+pub find_nothing : (p : ℕ → Bool) (xs : List ℕ) → ((n : ℕ) → p n ≡ false) → find p xs ≡ None
 find_nothing p [] none = refl
 find_nothing p (x ∷ xs) none = ap (λ b. if b then Some x else find p xs) (none x) ∙ find_nothing p xs none
 

@@ -33,8 +33,8 @@ quietly c = record { after = c; pin = None }
 
 -- an acknowledge of level t: its latch is cleared and its in-service bit set; under automatic EOI that bit is cleared at
 -- once, the pin counts as acknowledged, and with rotation t becomes the lowest level
-abbrev pub acknowledged : Chip → ℕ → Effect Chip
-acknowledged c t = record {
+abbrev pub level_acknowledged : Chip → ℕ → Effect Chip
+level_acknowledged c t = record {
   after = record c {
     latches = set.remove c.latches t;
     isr = if c.auto_eoi then set.remove c.isr t else set.insert c.isr t;
@@ -146,7 +146,11 @@ plainly c value = record { after = c; value = value; pin = None }
 abbrev pub polled_by : Option ℕ → Chip → Read Chip
 polled_by None c = plainly (record c { poll_pending = false }) 0x00
 polled_by (Some t) c =
-    record { after = (acknowledged (record c { poll_pending = false }) t).after; value = 0x80 + t; pin = (acknowledged c t).pin }
+    record {
+      after = (level_acknowledged (record c { poll_pending = false }) t).after;
+      value = 0x80 + t;
+      pin = (level_acknowledged c t).pin;
+    }
 
 abbrev pub polled : Chip → Place → Read Chip
 polled c place = polled_by (top_of c place) c

@@ -1,14 +1,15 @@
 -- The pair of 8259As: its ports, its sixteen pins and its acknowledge cycle.
 -- 8259A data sheet, cascade mode and the interrupt sequence; the ports are those of the PC, the edge/level registers
 -- those of the PIIX chips.
-use Rattle.std.specs.Prelude.{ℕ, ◌+◌, ◌%◌, Bool, ◌||◌, nat_eq, nat_lt, is_some, if◌then◌else◌, Some, None, List, [], ◌∷◌}
+use Rattle.std.specs.Prelude.{◌≡◌, ℕ, ◌+◌, ◌%◌, Bool, ◌||◌, nat_eq, nat_lt, is_some, if◌then◌else◌, Some, None, List, [], ◌∷◌, map}
 use Rattle.std.specs.declared.option.Option.{Option}
 use Rattle.std.specs.FinSet as set
+use Rattle.reg_table.specs.Rows.{resets}
 use Rattle.reg_table.specs.declared.row.RegRow.{RegRow}
 use Rattle.pic_8259a.specs.Levels.{levels_of, byte_of}
 use Rattle.pic_8259a.specs.Chip.{chip_at_power_on}
 use Rattle.pic_8259a.specs.Priority.{top_of}
-use Rattle.pic_8259a.specs.Accesses.{Effect, Read, quietly, plainly, acknowledged, even_written, odd_written, elcr_written, even_read, odd_read, with_pin, outcome_of}
+use Rattle.pic_8259a.specs.Accesses.{Effect, Read, quietly, plainly, level_acknowledged, even_written, odd_written, elcr_written, even_read, odd_read, with_pin, outcome_of}
 use Rattle.pic_8259a.specs.declared.chip.Chip.{Chip}
 use Rattle.pic_8259a.specs.declared.chip.Place.{Place}
 use Rattle.pic_8259a.specs.declared.chip.Place.TheVariants.{Slave, Master}
@@ -48,13 +49,16 @@ pin_outcome p pin high = if nat_lt pin 8 then outcome_of p.master pin high else 
 
 -- ---- ports
 
--- the six ports: an even and an odd port for each chip, and the two edge/level registers with the pins that may be
--- level-triggered
-abbrev pub port_row : ℕ → ℕ → RegRow
-port_row offset writable = record { offset = offset; readable = 0xff; writable = writable; reset = 0 }
+-- a row of the table of ports
+abbrev pub port_row : ℕ → ℕ → ℕ → RegRow
+port_row offset writable reset = record { offset = offset; readable = 0xff; writable = writable; reset = reset }
 
+-- the six ports: an even and an odd port for each chip, the odd one reading IMR, and the two edge/level registers with the
+-- pins that may be level-triggered
 abbrev pub port_rows : List RegRow
-port_rows = port_row 0x20 0xff ∷ port_row 0x21 0xff ∷ port_row 0xa0 0xff ∷ port_row 0xa1 0xff ∷ port_row 0x4d0 0xf8 ∷ port_row 0x4d1 0xde ∷ []
+port_rows =
+    port_row 0x20 0xff 0 ∷ port_row 0x21 0xff 0xff ∷ port_row 0xa0 0xff 0 ∷ port_row 0xa1 0xff 0xff
+    ∷ port_row 0x4d0 0xf8 0 ∷ port_row 0x4d1 0xde 0 ∷ []
 
 abbrev pub is_port : ℕ → Bool
 is_port port = nat_eq port 0x20 || nat_eq port 0x21 || nat_eq port 0xa0 || nat_eq port 0xa1 || nat_eq port 0x4d0 || nat_eq port 0x4d1
@@ -107,6 +111,10 @@ read_by p SlaveElcr = from_slave p (plainly p.slave (byte_of p.slave.elcr))
 abbrev pub read_from : Pair → ℕ → Read Pair
 read_from p port = read_by p (port_of port)
 
+-- what each port reads at power-on is the value of its row
+abbrev pub PortsStartAsTold : Type 0
+PortsStartAsTold = map (λ row. (read_from pair_at_power_on row.offset).value) port_rows ≡ resets port_rows
+
 -- ---- the acknowledge cycle
 
 -- what a cycle gives: the pair after it, the vector, and the pins that count as acknowledged
@@ -123,9 +131,9 @@ acked_pins master slave = record { master = master; slave = slave }
 abbrev pub slave_cycle : Option ℕ → Pair → Option ℕ → Cycle
 slave_cycle None p master = record { after = p; vector = p.slave.base + 7; pins = acked_pins master None }
 slave_cycle (Some s) p master = record {
-  after = record p { slave = (acknowledged p.slave s).after };
+  after = record p { slave = (level_acknowledged p.slave s).after };
   vector = p.slave.base + s;
-  pins = acked_pins master (slave_pin (acknowledged p.slave s).pin);
+  pins = acked_pins master (slave_pin (level_acknowledged p.slave s).pin);
 }
 
 -- the cycle by the master's top: without one the vector is that of its level 7 and nothing changes (this board's own rule);
@@ -134,11 +142,13 @@ abbrev pub cycle_by : Option ℕ → Pair → Cycle
 cycle_by None p = record { after = p; vector = p.master.base + 7; pins = acked_pins None None }
 cycle_by (Some t) p =
     if nat_eq t 2
-    then slave_cycle (top_of p.slave Slave) (record p { master = (acknowledged p.master t).after }) (acknowledged p.master t).pin
+    then slave_cycle (top_of p.slave Slave)
+    (record p { master = (level_acknowledged p.master t).after })
+    (level_acknowledged p.master t).pin
     else record {
-      after = record p { master = (acknowledged p.master t).after };
+      after = record p { master = (level_acknowledged p.master t).after };
       vector = p.master.base + t;
-      pins = acked_pins (acknowledged p.master t).pin None;
+      pins = acked_pins (level_acknowledged p.master t).pin None;
     }
 
 abbrev pub cycle : Pair → Cycle

@@ -28,14 +28,14 @@ abbrev pub nests_specially : Chip → Place → Bool
 nests_specially c (Master _) = c.special_fully_nested
 nests_specially c Slave = false
 
--- whether level k in service inhibits level n: its own level and all behind it, but that in special nesting level 2 does
--- not inhibit itself
+-- whether level k in service inhibits level n, by the order of priority: its own level and all behind it, but that in
+-- special nesting level 2 does not inhibit itself
 abbrev pub inhibits : Bool → List ℕ → ℕ → ℕ → Bool
-inhibits special levels k n = comes_by levels k n && not (special && (nat_eq k 2 && nat_eq n 2))
+inhibits special order k n = comes_by order k n && not (special && (nat_eq k 2 && nat_eq n 2))
 
--- whether some level of these inhibits level n
+-- whether some level of these inhibits level n, by the order of priority
 abbrev pub is_inhibited : Bool → List ℕ → Numbers → ℕ → Bool
-is_inhibited special levels inhibitors n = list_any (λ k. set.contains inhibitors k && inhibits special levels k n) levels
+is_inhibited special order inhibitors n = list_any (λ k. set.contains inhibitors k && inhibits special order k n) order
 
 -- a level is ready where it requests, is not masked and is not inhibited
 abbrev pub is_ready : Chip → Place → ℕ → Bool

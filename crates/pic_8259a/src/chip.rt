@@ -3,7 +3,7 @@ ghost use Rattle.std.specs.Prelude.{◌≡◌, ℕ, ◌<◌, ◌+◌, ◌*◌, �
 ghost use Rattle.irq_bits.specs.Members.{is_set};
 ghost use Rattle.pic_8259a.specs.Chip.{chip_at_power_on};
 ghost use Rattle.pic_8259a.specs.Priority.{IsTop, requests_of, inhibitors_of, top_of};
-ghost use Rattle.pic_8259a.specs.Accesses.{acknowledged, ended, commanded, controlled, initialised, even_written, odd_written, polled, even_read, odd_read, with_pin, outcome_of, elcr_written};
+ghost use Rattle.pic_8259a.specs.Accesses.{level_acknowledged, ended, commanded, controlled, initialised, even_written, odd_written, polled, even_read, odd_read, with_pin, outcome_of, elcr_written};
 
 use crate::levels::{Level, Levels, first_free};
 use std::marker::Model;
@@ -177,8 +177,8 @@ impl Chip {
 
     /// Acknowledges a level, and gives the pin that counts as acknowledged.
     pub fn acknowledge(&mut self, level: Level) -> Option<Level>
-        ensures after { self.new ≡ (acknowledged self.old level).after }
-        ensures pin { result ≡ (acknowledged self.old level).pin }
+        ensures after { self.new ≡ (level_acknowledged self.old level).after }
+        ensures pin { result ≡ (level_acknowledged self.old level).pin }
     {
         self.latches = self.latches.without(level);
         if self.auto_eoi {

@@ -14,3 +14,4 @@ mod ports;
 
 pub use chip::PinOutcome;
 pub use pair::{AckedPins, Pair};
+pub use ports::ports_start_as_told;

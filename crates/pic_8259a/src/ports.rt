@@ -1,6 +1,7 @@
 //! The six ports.
 ghost use Rattle.std.specs.Prelude.{◌≡◌, IsTrue};
-ghost use Rattle.pic_8259a.specs.Pair.{port_rows, port_of, is_port};
+ghost use Rattle.pic_8259a.specs.Pair.{port_rows, port_of, is_port, PortsStartAsTold};
+ghost use Rattle.reg_table.specs.Rows.{ResetsAreReadable};
 
 use reg_table::{RegRow, RegTable};
 
@@ -26,22 +27,22 @@ fn ports() -> RegTable<6>
     ensures { result ≡ port_rows }
 {
     macro_rules! port {
-        ($offset:expr, $writable:expr) => {
+        ($offset:expr, $writable:expr, $reset:expr) => {
             RegRow {
                 offset: $offset,
                 readable: 0xff,
                 writable: $writable as u32,
-                reset: 0,
+                reset: $reset,
             }
         };
     }
     RegTable::of([
-        port!(0x20, 0xff),
-        port!(0x21, 0xff),
-        port!(0xa0, 0xff),
-        port!(0xa1, 0xff),
-        port!(0x4d0, MASTER_ELCR),
-        port!(0x4d1, SLAVE_ELCR),
+        port!(0x20, 0xff, 0),
+        port!(0x21, 0xff, 0xff),
+        port!(0xa0, 0xff, 0),
+        port!(0xa1, 0xff, 0xff),
+        port!(0x4d0, MASTER_ELCR, 0),
+        port!(0x4d1, SLAVE_ELCR, 0),
     ])
 }
 
@@ -59,3 +60,10 @@ pub fn port_at(port: u16) -> Port
         _ => Port::SlaveElcr,
     }
 }
+
+/// A law: what each port reads at power-on is the value of its row in the table, whose bits can all be read.
+#[tactic(auto, using(crate::proofs::PowerOn::ports_start_as_told))]
+pub fn ports_start_as_told()
+    ensures values { PortsStartAsTold }
+    ensures readable { ResetsAreReadable port_rows }
+{}

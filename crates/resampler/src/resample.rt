@@ -1,7 +1,7 @@
 //! The signals of resample counters at an acknowledge.
 ghost use Rattle.std.specs.Prelude.{◌≡◌, ◌+◌, ◌<◌, ◌≤◌, [], ◌∷◌, ◌++◌, length, All};
 ghost use Rattle.arrayvec.specs.ArrayVec.{array_vec_len};
-ghost use Rattle.event_counter.specs.Counters.{signalled_all};
+ghost use Rattle.irq_base.specs.Counts.{signalled_all};
 ghost use Rattle.resampler.specs.Resample.{resample_of, resampled, resample_events};
 
 use event_counter::Counters;

@@ -10,10 +10,11 @@ use Rattle.irq_base.specs.declared.event.Pin.TheVariants.{Pic, Ioapic}
 use Rattle.irq_base.specs.declared.message.MsiWord.{MsiWord}
 use Rattle.route_table.specs.Rows.{gsi_in, pic_in, ioapic_in, msi_in, table_of, targets_of}
 use Rattle.route_table.specs.Pins.{has_pin, gsi_of}
-use Rattle.route_table.specs.Sound.{Sound}
+use Rattle.route_table.proofs.Sound.{Sound}
 use Rattle.route_table.specs.Tables.{HasRow}
-use Rattle.route_table.specs.TableLaws.{given_by_rows, given_in_table, one_owner, gsi_found, gsi_told}
-use Rattle.route_table.specs.Filled.{pic_target, ioapic_target}
+use Rattle.route_table.proofs.TableLaws.{given_by_rows, given_in_table, one_owner, gsi_found}
+use Rattle.route_table.specs.Pins.{gsi_told}
+use Rattle.route_table.proofs.Filled.{pic_target, ioapic_target}
 
 -- ---- a row is what it says
 

@@ -1,2 +1,9 @@
+pub mod DefaultLaws
+pub mod RowLaws
+pub mod StandingLaws
+pub mod TableLaws
+pub mod WordLaws
+pub mod Filled
+pub mod Sound
 pub mod Steps
 pub mod Given

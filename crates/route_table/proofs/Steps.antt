@@ -8,9 +8,9 @@ use Rattle.irq_base.specs.Refusals.{Reason, first_of}
 use Rattle.irq_base.specs.declared.call.Row.{Row}
 use Rattle.irq_base.specs.declared.refusal.Refusal.{Refusal}
 use Rattle.route_table.specs.Rows.{gsi_in, pic_in, ioapic_in, msi_in, row_reasons, reasons_after}
-use Rattle.route_table.specs.Sound.{kept_of}
+use Rattle.route_table.proofs.Sound.{kept_of}
 use Rattle.route_table.specs.Standing.{with_owner, fits_if, reasons_at, word_with, Stands}
-use Rattle.route_table.specs.StandingLaws.{reasons_are, stands-snoc}
+use Rattle.route_table.proofs.StandingLaws.{reasons_are, stands-snoc}
 
 pub first_later : (xs ys : List Reason) → first_of xs ≡ None → first_of (xs ++ ys) ≡ first_of ys
 first_later [] ys e = refl

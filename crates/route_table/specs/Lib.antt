@@ -1,12 +1,6 @@
 pub mod Words
-pub mod WordLaws
 pub mod Rows
-pub mod RowLaws
 pub mod Pins
-pub mod Sound
 pub mod Standing
-pub mod StandingLaws
 pub mod Tables
-pub mod TableLaws
-pub mod Filled
 pub mod Defaults

@@ -1,5 +1,5 @@
 -- Whose a pin is.
-use Rattle.std.specs.Prelude.{ℕ, ◌+◌, ◌<◌, Bool, if◌then◌else◌, List, [], ◌∷◌, Some}
+use Rattle.std.specs.Prelude.{ℕ, ◌+◌, ◌-◌, ◌<◌, Bool, nat_eq, if◌then◌else◌, List, [], ◌∷◌, Some, None}
 use Rattle.std.specs.List.{find}
 use Rattle.std.specs.FinMap as map
 use Rattle.std.specs.declared.option.Option.{Option}
@@ -28,3 +28,7 @@ gsi_of table pin = find (λ gsi. has_pin pin (targets_of table gsi)) (map.keys t
 unfoldable pub owner : (Row → Option ℕ) → ℕ → List Row → ℕ
 owner f n [] = 0
 owner f n (row ∷ rows) = if is_same (f row) (Some n) then gsi_in row + 1 else owner f n rows
+
+-- the GSI that the word of a pin tells
+abbrev pub gsi_told : ℕ → Option ℕ
+gsi_told v = if nat_eq v 0 then None else Some (v - 1)

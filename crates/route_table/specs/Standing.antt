@@ -7,7 +7,7 @@ use Rattle.irq_base.specs.declared.call.Row.{Row}
 use Rattle.irq_base.specs.declared.message.MsiWord.{MsiWord}
 use Rattle.irq_base.specs.declared.message.Targets.{Targets}
 use Rattle.irq_base.specs.declared.refusal.Refusal.TheVariants.{NoGsi, BadRow, ChipTwice, Mixed, PinTwice, BadMsi}
-use Rattle.route_table.specs.Words.{is_below, word_of, targets_in}
+use Rattle.route_table.specs.Words.{is_below, targets_word, targets_in}
 use Rattle.route_table.specs.Rows.{gsi_in, pic_in, ioapic_in, msi_in, is_good_if, are_both, has_target, targets_by}
 use Rattle.route_table.specs.Pins.{owner}
 
@@ -54,10 +54,12 @@ reasons_at words pics ioapics row = reasons_by (gsi_in row) (named_in row) (rout
 
 -- the word of a row's GSI once the row is added
 abbrev pub word_with : List ℕ → Row → ℕ
-word_with words row = word_of (joined (route_at words (gsi_in row)) (named_in row)) false
+word_with words row = targets_word (joined (route_at words (gsi_in row)) (named_in row)) false
 
--- words send each GSI where the rows do, and each pin is whose it is by the rows
+-- words send each GSI where the rows do, each being the word of that route without a mark, and each pin is whose it is by the
+-- rows
 pub record Stands (words pics ioapics : List ℕ) (rows : List Row) : Type 0 where
+  pub encoded : (gsi : ℕ) → slice_index words gsi ≡ targets_word (route_at words gsi) false
   pub routes : (gsi : ℕ) → route_at words gsi ≡ targets_by rows gsi
   pub pic_owners : (n : ℕ) → slice_index pics n ≡ owner pic_in n rows
   pub ioapic_owners : (n : ℕ) → slice_index ioapics n ≡ owner ioapic_in n rows

@@ -1,6 +1,7 @@
 -- The word of a GSI, in this board's own format.
-use Rattle.std.specs.Prelude.{ℕ, ◌+◌, ◌-◌, ◌*◌, ◌/◌, ◌%◌, ◌^◌, Bool, true, false, ◌&&◌, nat_eq, nat_lt, if◌then◌else◌, Some, None}
+use Rattle.std.specs.Prelude.{ℕ, ◌+◌, ◌*◌, ◌/◌, ◌%◌, ◌^◌, Bool, true, false, ◌&&◌, nat_eq, nat_lt, if◌then◌else◌, Some, None}
 use Rattle.std.specs.declared.option.Option.{Option}
+use Rattle.irq_bits.specs.Fields.{bits_of}
 use Rattle.irq_base.specs.declared.message.MsiWord.{MsiWord}
 use Rattle.irq_base.specs.declared.message.Targets.{Targets}
 
@@ -48,14 +49,10 @@ abbrev pub target_bits : Targets → ℕ
 target_bits t = bits_of_targets t.pic t.ioapic t.msi
 
 -- the word of targets; bit 63 is the mark
-abbrev pub word_of : Targets → Bool → ℕ
-word_of t marked = (if marked then 2 ^ 63 else 0) + target_bits t
+abbrev pub targets_word : Targets → Bool → ℕ
+targets_word t marked = (if marked then 2 ^ 63 else 0) + target_bits t
 
 -- ---- the targets of a word
-
--- the number in bits `high` to `low` of a word
-abbrev pub bits_at : ℕ → ℕ → ℕ → ℕ
-bits_at word high low = word / 2 ^ low % 2 ^ (high + 1 - low)
 
 -- a pin, where the bit tells that it is there
 abbrev pub pin_named : ℕ → ℕ → Option ℕ
@@ -63,11 +60,11 @@ pin_named there number = if nat_eq there 1 then Some number else None
 
 -- the pins that the fields of a word name
 abbrev pub pins_in : ℕ → Targets
-pins_in word = record { pic = pin_named (bits_at word 2 2) (bits_at word 6 3); ioapic = pin_named (bits_at word 7 7) (bits_at word 12 8); msi = None }
+pins_in word = record { pic = pin_named (bits_of word 2 2) (bits_of word 6 3); ioapic = pin_named (bits_of word 7 7) (bits_of word 12 8); msi = None }
 
 -- the message that the fields of a word name; the other bits of its address are those of messages
 abbrev pub message_in : ℕ → Targets
-message_in word = record { pic = None; ioapic = None; msi = Some (record { address = 0xfee00000 + bits_at word 21 2; payload = bits_at word 53 22 }) }
+message_in word = record { pic = None; ioapic = None; msi = Some (record { address = 0xfee00000 + bits_of word 21 2; payload = bits_of word 53 22 }) }
 
 -- one of both, by the kind
 abbrev pub of_kind : ℕ → Targets → Targets → Targets
@@ -75,14 +72,14 @@ of_kind kind pins message = if nat_eq kind 1 then pins else if nat_eq kind 2 the
 
 -- the targets that the fields of a word name
 abbrev pub named_by : ℕ → Targets
-named_by word = of_kind (bits_at word 1 0) (pins_in word) (message_in word)
+named_by word = of_kind (bits_of word 1 0) (pins_in word) (message_in word)
 
 abbrev pub is_marked : ℕ → Bool
-is_marked word = nat_eq (bits_at word 63 63) 1
+is_marked word = nat_eq (bits_of word 63 63) 1
 
 -- whether the word is that of a route
 abbrev pub is_word_of : ℕ → Targets → Bool → Bool
-is_word_of word t m = is_route t && nat_eq (word_of t m) word
+is_word_of word t m = is_route t && nat_eq (targets_word t m) word
 
 -- the targets and the mark where the test holds, else no target and false
 abbrev pub given_where : Bool → Targets → Bool → Targets × Bool

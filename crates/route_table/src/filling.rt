@@ -32,7 +32,7 @@ pub fn zeros(alloc: Global, count: usize) -> Result<Vec<u64>, NoMemory>
 }
 
 /// Makes words and pins stand for the rows, unless these are refused.
-#[tactic(auto, using(crate::specs::Filled::refill_rules))]
+#[tactic(auto, using(crate::proofs::Filled::refill_rules))]
 pub fn refill(
     words: &mut [u64],
     pics: &mut [u16],
@@ -52,6 +52,22 @@ pub fn refill(
     }
     clear(words);
     fill(words, pics, ioapics, rows)
+}
+
+/// Why a list of rows is refused, if it is: `Full` for more than 4,096 rows, else as `Table::replace` does. It takes no memory;
+/// while it runs it has a table of its own, of 32 KiB.
+#[inline(never)]
+#[tactic(auto, using(crate::proofs::Filled::replace_rules))]
+pub fn refusal_of(rows: &Rows) -> Option<Refusal>
+    ensures { result ≡ refusal_of rows.now }
+{
+    let mut words = [0; 4096];
+    let mut pics = [0; 16];
+    let mut ioapics = [0; 24];
+    match refill(&mut words, &mut pics, &mut ioapics, rows) {
+        Err(refusal) => Some(refusal),
+        Ok(()) => None,
+    }
 }
 
 // Adds the rows in their order to words and pins that stand for none, up to the first that is refused.
@@ -105,7 +121,7 @@ fn add(words: &mut [u64], pics: &mut [u16], ioapics: &mut [u16], row: &Row) -> R
 }
 
 /// Where the word of a GSI sends it.
-#[tactic(auto, using(crate::specs::StandingLaws::past_rules))]
+#[tactic(auto, using(crate::proofs::StandingLaws::past_rules))]
 pub fn route_at(words: &[u64], gsi: u16) -> Targets
     ensures value { result ≡ route_at words.now gsi }
     ensures route { IsTrue (is_route result) }

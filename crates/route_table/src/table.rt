@@ -1,10 +1,9 @@
 //! The routing table.
 ghost use Rattle.std.specs.Prelude.{◌≡◌, ℕ, List, ◌<◌, IfOk, OnErr, OnOk, MatchResult, IfSome, IsTrue, Some, None, [], slice_index};
 ghost use Rattle.irq_base.specs.declared.call.Row.{Row as RouteRow};
-ghost use Rattle.route_table.specs.Words.{is_route};
+ghost use Rattle.route_table.specs.Words.{is_route, targets_word};
 ghost use Rattle.route_table.specs.Rows.{refusal_of, table_of, targets_of};
-ghost use Rattle.route_table.specs.Pins.{gsi_of};
-ghost use Rattle.route_table.specs.TableLaws.{gsi_told};
+ghost use Rattle.route_table.specs.Pins.{gsi_of, gsi_told};
 ghost use Rattle.route_table.specs.Defaults.{pic_rows, ioapic_rows, default_rows};
 
 use crate::filling::{refill, route_at, zeros};
@@ -41,7 +40,7 @@ impl Model for Table {
 }
 
 // The 8259A pins of GSIs 0 to 15, and the I/O APIC pins of GSIs 0 to 23.
-#[tactic(auto, using(crate::specs::Defaults::default_row_rules))]
+#[tactic(auto, using(crate::proofs::DefaultLaws::default_row_rules))]
 fn default_rows(alloc: Global) -> Result<Rows, NoMemory>
     ensures { IfOk result (λ rows. rows ≡ default_rows) }
 {
@@ -64,7 +63,7 @@ fn default_rows(alloc: Global) -> Result<Rows, NoMemory>
 impl Table {
     /// The table at power-on: GSI n below 16 goes to 8259A pin n and I/O APIC pin n, GSI n from 16 to 23 to I/O APIC pin
     /// n. It takes all memory that `replace` and `copy_from` need.
-    #[tactic(auto, using(crate::specs::Defaults::default_rules))]
+    #[tactic(auto, using(crate::proofs::DefaultLaws::default_rules))]
     pub fn power_on(alloc: Global) -> Result<Table, NoMemory>
         ensures { IfOk result (λ table. table ≡ table_of default_rows) }
     {
@@ -76,7 +75,7 @@ impl Table {
     }
 
     // The table of no rows.
-    #[tactic(auto, using(crate::specs::Filled::replace_rules))]
+    #[tactic(auto, using(crate::proofs::Filled::replace_rules))]
     fn empty(alloc: Global) -> Result<Table, NoMemory>
         ensures { IfOk result (λ table. table ≡ table_of []) }
     {
@@ -95,7 +94,7 @@ impl Table {
     /// does not have, `BadMsi` for an address that is none of messages, `ChipTwice` for an earlier row of this GSI with a
     /// pin of the same chip, `Mixed` for an earlier row of this GSI where one of the two is a message, and `PinTwice` for
     /// an earlier row with this pin. After a refusal the table is unchanged. It takes no memory.
-    #[tactic(auto, using(crate::specs::Filled::replace_rules))]
+    #[tactic(auto, using(crate::proofs::Filled::replace_rules))]
     pub fn replace(&mut self, rows: &Rows) -> Result<(), Refusal>
         ensures refusal { MatchResult result (λ _. refusal_of rows.now ≡ None) (λ r. refusal_of rows.now ≡ Some r) }
         ensures table { OnOk result (self.new ≡ table_of rows.now) }
@@ -115,7 +114,7 @@ impl Table {
     }
 
     /// Where a GSI goes: to pins that the chips have or to a message alone whose address is one of messages, or nowhere.
-    #[tactic(auto, using(crate::specs::Filled::look_rules))]
+    #[tactic(auto, using(crate::proofs::Filled::look_rules))]
     pub fn targets(&self, gsi: u16) -> Targets
         requires { gsi < 4096 }
         ensures value { result ≡ targets_of self.now gsi }
@@ -124,8 +123,18 @@ impl Table {
         route_at(self.words.as_slice(), gsi)
     }
 
+    /// The word of a GSI, which tells where it goes, with that mark: `encode` of its targets, found in one step.
+    #[inline]
+    pub fn word(&self, gsi: u16, marked: bool) -> u64
+        requires { gsi < 4096 }
+        ensures { result ≡ targets_word (targets_of self.now gsi) marked }
+    {
+        let word = self.words.as_slice()[gsi as usize];
+        if marked { word + (1 << 63) } else { word }
+    }
+
     /// The GSI that goes to a pin, or none, as for a pin that the chip does not have.
-    #[tactic(auto, using(crate::specs::Filled::pin_rules))]
+    #[tactic(auto, using(crate::proofs::Filled::pin_rules))]
     pub fn gsi_of(&self, pin: Pin) -> Option<u16>
         ensures value { result ≡ gsi_of self.now pin }
         ensures range { IfSome result (λ gsi. gsi < 4096) }
@@ -138,7 +147,7 @@ impl Table {
 
     /// A law: the table is that of rows that keep the rules, and each GSI goes to pins that the chips have or to a message
     /// alone whose address is one of messages, or nowhere.
-    #[tactic(auto, using(crate::specs::Filled::sound_rules))]
+    #[tactic(auto, using(crate::proofs::Filled::sound_rules))]
     pub fn keeps_the_rules(&self)
         ensures made { (rows : List RouteRow) × (refusal_of rows ≡ None) × (self.now ≡ table_of rows) }
         ensures routes { (gsi : ℕ) → IsTrue (is_route (targets_of self.now gsi)) }
@@ -147,7 +156,7 @@ impl Table {
     }
 
     /// Makes the table equal to the other. It takes no memory.
-    #[tactic(auto, using(crate::specs::Filled::copy_rules))]
+    #[tactic(auto, using(crate::proofs::Filled::copy_rules))]
     pub fn copy_from(&mut self, other: &Table)
         ensures { self.new ≡ other.now }
     {

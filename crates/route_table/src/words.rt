@@ -1,7 +1,7 @@
 //! Words that tell where a GSI goes, in this board's own format.
 ghost use Rattle.std.specs.Prelude.{◌≡◌, ◌≢◌, ◌<◌, ◌^◌, Bool, true, false, IsTrue};
 ghost use Rattle.irq_base.specs.declared.message.Targets.{Targets as Route};
-ghost use Rattle.route_table.specs.Words.{no_targets, is_route, is_below, is_good, is_word_of, pin_bits, pin_named, target_bits, word_of, named_by, targets_in};
+ghost use Rattle.route_table.specs.Words.{no_targets, is_route, is_below, is_good, is_word_of, pin_bits, pin_named, target_bits, targets_word, named_by, targets_in};
 
 use irq_base::{MsiWord, Targets};
 
@@ -9,7 +9,7 @@ use irq_base::{MsiWord, Targets};
 /// 2 a message; bit 63 is the mark. For pins bit 2 and bits 6 to 3 are the 8259A pin, bit 7 and bits 12 to 8 the I/O APIC
 /// pin; for a message bits 21 to 2 are its address bits 19 to 0 and bits 53 to 22 its payload.
 pub fn encode(targets: &Targets, marked: bool) -> u64
-    ensures { result ≡ word_of targets.now marked }
+    ensures { result ≡ targets_word targets.now marked }
 {
     let mark = if marked { 1 << 63 } else { 0 };
     mark + target_bits(targets)
@@ -41,11 +41,11 @@ fn pin_bits(pin: Option<u8>) -> u64
 }
 
 /// Where the GSI of a word goes, and whether it is marked. A word that is none of a route gives no target and false.
-#[tactic(auto, using(crate::specs::WordLaws::word_rules))]
+#[tactic(auto, using(crate::proofs::WordLaws::word_rules))]
 pub fn decode(word: u64) -> (Targets, bool)
     ensures value { result ≡ targets_in word }
-    ensures encoded { (t : Route) (m : Bool) → IsTrue (is_route t) → word ≡ word_of t m → result ≡ (t, m) }
-    ensures other { ((t : Route) (m : Bool) → IsTrue (is_route t) → word ≢ word_of t m) → result ≡ (no_targets, false) }
+    ensures encoded { (t : Route) (m : Bool) → IsTrue (is_route t) → word ≡ targets_word t m → result ≡ (t, m) }
+    ensures other { ((t : Route) (m : Bool) → IsTrue (is_route t) → word ≢ targets_word t m) → result ≡ (no_targets, false) }
     ensures route { IsTrue (is_route result.0) }
 {
     fields_of(word)
@@ -126,7 +126,7 @@ fn is_route(targets: &Targets) -> bool
 }
 
 // Whether the address is one of messages.
-#[tactic(auto, using(crate::specs::WordLaws::good_rules))]
+#[tactic(auto, using(crate::proofs::WordLaws::good_rules))]
 fn is_good(address: u64, payload: u32) -> bool
     ensures { result ≡ is_good (record { address = address; payload = payload }) }
 {

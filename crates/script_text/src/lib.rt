@@ -1,4 +1,6 @@
 //! Scripts: the grammar of their lines, what is wrong with the first bad one, and what each actor of a script asks next.
+//!
+//! `docs/SCRIPTS.md` tells the grammar in words, and which definition says each sentence.
 #![tactic(auto)]
 
 mod actor_lines;
@@ -7,7 +9,6 @@ mod commands;
 mod draft;
 mod judging;
 mod laws;
-
 mod numbers;
 mod progress;
 mod rows;

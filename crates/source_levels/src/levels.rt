@@ -39,7 +39,7 @@ fn place_of(source: Source) -> u16
     }
 }
 
-#[tactic(auto, using(crate::specs::Flags::flag_rules))]
+#[tactic(auto, using(crate::proofs::FlagLaws::flag_rules))]
 impl<const N: usize> Levels<N> {
     /// No source holds a pin.
     pub fn none() -> Levels<N>
@@ -81,6 +81,13 @@ impl<const N: usize> Levels<N> {
         ensures some { IsTrue result ↔ ((source : Holder) × (set.contains self.now (hold pin source) ≡ true)) }
     {
         self.words[pin as usize] != 0
+    }
+
+    /// The same holds once more.
+    pub fn copy(&self) -> Levels<N>
+        ensures { result ≡ self.now }
+    {
+        Levels { words: self.words }
     }
 
     /// Makes the holds equal to the other's.

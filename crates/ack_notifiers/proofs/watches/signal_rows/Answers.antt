@@ -1,6 +1,6 @@
 use Rattle.std.proofs.Common.{◌+◌, drop, slice_index_or, subst}
 use Rattle.irq_base.specs.declared.event.Event.TheVariants.{Watched}
-use Rattle.event_counter.proofs.SignalsLeft.{SignalsLeft, next_below, signal_next}
+use Rattle.irq_base.proofs.SignalsLeft.{SignalsLeft, next_below, signal_next}
 use Rattle.ack_notifiers.specs.declared.watches.Watch.{Watch}
 use Rattle.ack_notifiers.specs.Rows.{watched}
 use Rattle.ack_notifiers.proofs.Steps.{next_row, passed_row}

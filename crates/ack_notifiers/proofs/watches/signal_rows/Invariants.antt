@@ -1,6 +1,6 @@
 use Rattle.std.proofs.Common.{drop}
 use Rattle.irq_base.specs.declared.event.Event.TheVariants.{Watched}
-use Rattle.event_counter.proofs.SignalsLeft.{SignalsLeft}
+use Rattle.irq_base.proofs.SignalsLeft.{SignalsLeft}
 use Rattle.ack_notifiers.specs.Rows.{watched}
 use Rattle.ack_notifiers.proofs.watches.signal_rows.Given as goal
 

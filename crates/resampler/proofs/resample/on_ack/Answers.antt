@@ -1,7 +1,7 @@
 use Rattle.std.proofs.Common.{◌≡◌, ℕ, ◌+◌, List, drop, Option, Some, None, subst}
 use Rattle.std.specs.List.{cons_option}
 use Rattle.irq_base.specs.declared.event.Event.TheVariants.{Resampled}
-use Rattle.event_counter.proofs.SignalsLeft.{SignalsLeft, next_below, signal_next}
+use Rattle.irq_base.proofs.SignalsLeft.{SignalsLeft, next_below, signal_next}
 use Rattle.resampler.specs.Resample.{resampled}
 use Rattle.resampler.proofs.Steps.{next_row}
 use Rattle.resampler.proofs.resample.on_ack.Goals.{in-Some, in_default}

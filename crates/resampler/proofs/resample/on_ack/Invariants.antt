@@ -1,6 +1,6 @@
 use Rattle.std.proofs.Common.{drop}
 use Rattle.irq_base.specs.declared.event.Event.TheVariants.{Resampled}
-use Rattle.event_counter.proofs.SignalsLeft.{SignalsLeft}
+use Rattle.irq_base.proofs.SignalsLeft.{SignalsLeft}
 use Rattle.resampler.specs.Resample.{resampled}
 use Rattle.resampler.proofs.resample.on_ack.Given as goal
 

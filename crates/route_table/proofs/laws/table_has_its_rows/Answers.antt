@@ -1,5 +1,5 @@
 -- Each row is in the table, and what is in the table is of a row.
-use Rattle.route_table.specs.Sound.{sound_of}
+use Rattle.route_table.proofs.Sound.{sound_of}
 use Rattle.route_table.proofs.Given.{row_in_table, row_of_table, pin_of_gsi, gsi_of_pin}
 use Rattle.route_table.proofs.laws.table_has_its_rows.Goals as goal
 

@@ -1,6 +1,6 @@
 -- The word of a route gives the route back.
 use Rattle.std.proofs.Common.{◌∙◌}
-use Rattle.route_table.specs.WordLaws.{targets_in-encoded}
+use Rattle.route_table.proofs.WordLaws.{targets_in-encoded}
 use Rattle.route_table.proofs.words.decode.Goals as goal
 
 pub returns-clause-encoded : goal.returns-clause-encoded

@@ -4,7 +4,7 @@ use Rattle.std.specs.declared.option.Option.{Option}
 use Rattle.board_model.specs.declared.trigger.TriggerWord.{TriggerWord}
 use Rattle.board_model.specs.Published.{trigger_word_at}
 use Rattle.board_raise.specs.InHand.{registry_of}
-use Rattle.board_raise.specs.OneBoard.{words_in}
+use Rattle.board_raise.specs.BoardRig.{words_in}
 use Rattle.board_raise.proofs.Publishing.{trigger_told, trigger_in-range}
 use Rattle.board_raise.proofs.words.Words.trigger.Goals as goal
 

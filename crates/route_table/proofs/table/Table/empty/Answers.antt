@@ -1,7 +1,7 @@
 -- Words and pins of 0 stand for no rows.
 use Rattle.std.proofs.Common.{[], replicate}
-use Rattle.route_table.specs.Filled.{stands_none, zeros_16, zeros_24, no_rows-kept, is_table}
-use Rattle.route_table.specs.TableLaws.{table_in-rows}
+use Rattle.route_table.proofs.Filled.{stands_none, zeros_16, zeros_24, no_rows-kept, is_table}
+use Rattle.route_table.proofs.TableLaws.{table_in-rows}
 use Rattle.route_table.proofs.table.Table.empty.Goals as goal
 
 pub invariant_of-result : goal.invariant_of-result

@@ -2,8 +2,8 @@
 use Rattle.std.proofs.Common.{ℕ, ◌<◌, IfSome, sym, ap, subst, ◌∙◌}
 use Rattle.std.specs.declared.option.Option.{Option}
 use Rattle.route_table.specs.Pins.{gsi_of}
-use Rattle.route_table.specs.TableLaws.{gsi_told}
-use Rattle.route_table.specs.Filled.{pic_owner, ioapic_owner, pic_low, ioapic_low, told_low}
+use Rattle.route_table.specs.Pins.{gsi_told}
+use Rattle.route_table.proofs.Filled.{pic_owner, ioapic_owner, pic_low, ioapic_low, told_low}
 use Rattle.route_table.proofs.table.Table.gsi_of.Goals as goal
 
 pub returns-in-Pic-clause-value : goal.returns-in-Pic-clause-value

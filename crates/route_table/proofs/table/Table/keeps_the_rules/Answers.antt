@@ -1,5 +1,5 @@
 use Rattle.std.proofs.Common.{sym, ◌∙◌}
-use Rattle.route_table.specs.Filled.{made_of}
+use Rattle.route_table.proofs.Filled.{made_of}
 use Rattle.route_table.proofs.table.Table.keeps_the_rules.Goals as goal
 
 -- the rows of the table

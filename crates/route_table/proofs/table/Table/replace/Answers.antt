@@ -2,7 +2,7 @@
 use Rattle.std.proofs.Common.{◌≡◌, ℕ, List, sym, ap, subst, ◌∙◌}
 use Rattle.std.proofs.lemmas.List.{with_items_is}
 use Rattle.route_table.specs.Standing.{Stands}
-use Rattle.route_table.specs.TableLaws.{table_in-rows}
+use Rattle.route_table.proofs.TableLaws.{table_in-rows}
 use Rattle.route_table.proofs.table.Table.replace.Goals as goal
 
 pub returns-in-Ok-clause-table : goal.returns-in-Ok-clause-table

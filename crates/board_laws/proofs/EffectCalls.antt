@@ -1,0 +1,255 @@
+-- A call that is answered with a status says what its status tells, and one without effect leaves the requests.
+use Rattle.std.proofs.Common.{◌≡◌, ℕ, Bool, true, false, nat_eq, if◌then◌else◌, ◌⊎◌, inl, inr, List, [], ◌∷◌, option_map, refl, sym, ap, ◌∙◌, subst, true≢false, Some, None}
+use Rattle.std.specs.declared.option.Option.{Option}
+use Rattle.irq_base.specs.Refusals.{first_of}
+use Rattle.irq_base.specs.declared.call.Call.{Call}
+use Rattle.irq_base.specs.declared.call.Call.TheVariants as calls
+use Rattle.irq_base.specs.declared.call.Caller.{Caller}
+use Rattle.irq_base.specs.declared.message.MsiWord.{MsiWord}
+use Rattle.irq_base.specs.declared.message.Source.{Source}
+use Rattle.irq_base.specs.declared.message.Source.TheVariants.{Line, Pulse, Resample, Tick}
+use Rattle.irq_base.specs.declared.message.Targets.{Targets}
+use Rattle.irq_base.specs.declared.refusal.Refusal.{Refusal}
+use Rattle.irq_base.specs.declared.reply.Reply.{Reply}
+use Rattle.irq_base.specs.declared.reply.Reply.TheVariants.{Signal, Done}
+use Rattle.irq_base.specs.declared.shape.Part.TheVariants as parts
+use Rattle.irq_base.specs.declared.shape.Part.TheVariants.{Lapic}
+use Rattle.irq_base.specs.declared.status.Cause.TheVariants.{Masked}
+use Rattle.irq_base.specs.declared.status.Status.{Status}
+use Rattle.irq_base.specs.declared.status.Status.TheVariants.{Lowered}
+use Rattle.ioapic_82093aa.specs.declared.ioapic.Raise.{Raise}
+use Rattle.ioapic_82093aa.specs.declared.ioapic.Raise.TheVariants as raises
+use Rattle.ioapic_82093aa.specs.Pins.{raise_of}
+use Rattle.pic_8259a.specs.Pair.{pin_outcome}
+use Rattle.msi_decode.specs.Messages.{message_in}
+use Rattle.tick_reinject.specs.declared.state.TickState.{TickState}
+use Rattle.tick_reinject.specs.Ticks.{ticked, tick_injects, tick_injected}
+use Rattle.board_model.specs.declared.trigger.TriggerWord.{TriggerWord}
+use Rattle.board_model.specs.Board.{Board, part_of}
+use Rattle.board_model.specs.Chips.{PicPart, IoapicPart, pair_of, ioapic_of}
+use Rattle.board_model.specs.Routing.{Routing, routing_of_registry}
+use Rattle.board_model.specs.Statuses.{nobody, TargetAnswer, stood_already, no_effect, status_of}
+use Rattle.board_model.specs.Plan.{About, the_reply, done, change, reply, ◌>>◌}
+use Rattle.board_model.specs.Run.{Wishes, Outcome, run}
+use Rattle.board_raise.specs.Send.{send}
+use Rattle.board_raise.specs.Signal.{pic_raised, pic_answer, ioapic_raised, is_accepted, accept_pin, ioapic_answered, raise_other, raise, let_go_pic, let_go_ioapic, let_go, let_go_after, lowered_status, lower, inject}
+use Rattle.board_raise.specs.Laws.{HasProcessors}
+use Rattle.board_step.specs.Refusals.{range_reasons, write_reasons}
+use Rattle.board_step.specs.Registrations.{unless_refused, source_of, trigger_written, write}
+use Rattle.board_step.specs.Ticks.{tick_or_hold}
+use Rattle.board_step.specs.Calls.{number_of, plan_in_range}
+use Rattle.board_step.specs.Step.{plan_on, outcome_of, with_counts, would_publish}
+use Rattle.board_laws.specs.Effect.{message_target, signal_targets, message_raised, pic_answer_on, raise_answer_on, IsSaidOf, is_without_effect, ChangesNoRequest, CoalescedAndIgnoredChangeNoRequest}
+use Rattle.board_laws.proofs.EffectStood.{raise_stood, raised_stood}
+use Rattle.board_laws.proofs.EffectMute.{Mute, unless_mute, call_mute, some_status, mute_answers}
+use Rattle.board_laws.proofs.EffectSends.{Spares, spares_bind, Says, says_before, says_after, shown_says, send_says}
+
+-- ---- plans that leave the requests
+
+module _ (b : Board) where
+  accept_pin_spares : (pin : ℕ) (t : Bool) → Spares b (accept_pin pin t)
+  accept_pin_spares pin true = λ v. (tt, tt)
+  accept_pin_spares pin false = tt
+
+  let_go_pic_spares : (pin : Option ℕ) (source : Source) → Spares b (let_go_pic pin source)
+  let_go_pic_spares None source = tt
+  let_go_pic_spares (Some pin) source = λ v. (tt, tt)
+
+  let_go_ioapic_spares : (pin : Option ℕ) (source : Source) → Spares b (let_go_ioapic pin source)
+  let_go_ioapic_spares None source = tt
+  let_go_ioapic_spares (Some pin) source = λ v. (tt, tt)
+
+  let_go_spares : (targets : Targets) (source : Source) → Spares b (let_go targets source)
+  let_go_spares targets source = spares_bind b (λ _. let_go_ioapic targets.ioapic source) (let_go_pic targets.pic source) (let_go_pic_spares targets.pic source) (λ _. let_go_ioapic_spares targets.ioapic source)
+
+  let_go_after_spares : (targets : Targets) (source : Source) → Spares b (let_go_after targets source)
+  let_go_after_spares targets Resample = tt
+  let_go_after_spares targets (Line n) = let_go_spares targets (Line n)
+  let_go_after_spares targets Pulse = let_go_spares targets Pulse
+  let_go_after_spares targets Tick = let_go_spares targets Tick
+
+-- ---- signals whose status is the reply
+
+abbrev shown : Option TargetAnswer → About
+shown pic = the_reply pic
+
+module _ (b : Board) (stand : HasProcessors b b.shape.cpus) where
+  -- the other target, on a board whose tick and pair may be others
+  module _ (u : TickState) (v : PicPart) (source : Source) (pic : Option ℕ) where
+    abbrev at : Option ℕ → Option MsiWord → Targets
+    at ioapic msi = record { pic = pic; ioapic = ioapic; msi = msi }
+
+    abbrev c : Board
+    c = record b { tick = u; pic = v }
+
+    answered_says : (pin : ℕ) (msi : Option MsiWord) (w : IoapicPart) (raised : Raise) → raise_of (ioapic_of b.ioapic) pin ≡ raised → (ws : Wishes)
+        → Says b (at (Some pin) msi) (run (ioapic_answered b.shape.cpus pin (shown (pic_answer_on b pic)) raised) (record c { ioapic = w }) ws)
+    answered_says pin msi w raises.Masked is ws =
+        shown_says b stand (at (Some pin) msi) u v w (Some (no_effect Masked)) (Some (no_effect Masked)) ws (sym (ap (λ r. Some (raise_answer_on b b.shape.cpus r)) is))
+    answered_says pin msi w raises.Stood is ws =
+        let found = raised_stood b.ioapic pin (ap raise_stood is) in
+        shown_says b stand (at (Some pin) msi) u v w (Some stood_already) (Some stood_already) ws (inl (record { pin = pin; there = refl; unmasked = found.0; stood = found.1 }))
+    answered_says pin msi w (raises.Send message) is ws =
+        says_before b (at (Some pin) msi) (λ answer. accept_pin pin (is_accepted message answer) >> done (Some answer)) (send b.shape.cpus message None (shown (pic_answer_on b pic))) (record c { ioapic = w }) ws
+        (send_says b stand (at (Some pin) msi) u v w message (ap message_raised is) (ap (λ r. Some (raise_answer_on b b.shape.cpus r)) is) ws)
+        (λ answer. spares_bind b (λ _. done (Some answer)) (accept_pin pin (is_accepted message answer)) (accept_pin_spares b pin (is_accepted message answer)) (λ _. tt))
+
+    other_says : (ioapic : Option ℕ) (msi : Option MsiWord) (ws : Wishes) → Says b (at ioapic msi) (run (raise_other b.shape.cpus ioapic msi source (shown (pic_answer_on b pic))) c ws)
+    other_says (Some pin) msi ws = answered_says pin msi (ioapic_raised b.ioapic pin source) (raise_of (ioapic_of b.ioapic) pin) refl ws
+    other_says None (Some word) ws =
+        says_before b (at None (Some word)) (λ answer. done (Some answer)) (send b.shape.cpus (message_in word.address word.payload) None (shown (pic_answer_on b pic))) c ws
+        (send_says b stand (at None (Some word)) u v b.ioapic (message_in word.address word.payload) refl refl ws)
+        (λ answer. tt)
+    other_says None None ws = shown_says b stand (at None None) u v b.ioapic None None ws refl
+
+  -- a signal, on a board whose tick may be another
+  module _ (u : TickState) (source : Source) (ws : Wishes) where
+    raised_says : (pic ioapic : Option ℕ) (msi : Option MsiWord) → Says b (record { pic = pic; ioapic = ioapic; msi = msi }) (run (raise b.shape.cpus (record { pic = pic; ioapic = ioapic; msi = msi }) source shown) (record b { tick = u }) ws)
+    raised_says None ioapic msi =
+        says_before b (record { pic = None; ioapic = ioapic; msi = msi }) (λ other. done (status_of None other nobody)) (raise_other b.shape.cpus ioapic msi source (shown None)) (record b { tick = u }) ws
+        (other_says u b.pic source None ioapic msi ws) (λ _. tt)
+    raised_says (Some pin) ioapic msi =
+        let answer = Some (pic_answer (pin_outcome (pair_of b.pic) pin true)) in
+        says_before b (record { pic = Some pin; ioapic = ioapic; msi = msi }) (λ other. done (status_of answer other nobody)) (raise_other b.shape.cpus ioapic msi source (shown answer)) (record b { tick = u; pic = pic_raised b.pic pin source }) ws
+        (other_says u (pic_raised b.pic pin source) source (Some pin) ioapic msi ws) (λ _. tt)
+
+    raise_says : (targets : Targets) → Says b targets (run (raise b.shape.cpus targets source shown) (record b { tick = u }) ws)
+    raise_says targets = raised_says targets.pic targets.ioapic targets.msi
+
+    inject_says : (targets : Targets) → Says b targets (run (inject b.shape.cpus targets source shown) (record b { tick = u }) ws)
+    inject_says targets =
+        says_before b targets (λ status. let_go_after targets source >> done status) (raise b.shape.cpus targets source shown) (record b { tick = u }) ws (raise_says targets)
+        (λ status. spares_bind b (λ _. done status) (let_go_after targets source) (let_go_after_spares b targets source) (λ _. tt))
+
+  -- a signal that is lowered
+  lowered_says : (pic ioapic : Option ℕ) (msi : Option MsiWord) → is_without_effect (lowered_status pic ioapic msi) ≡ true → IsSaidOf b (record { pic = pic; ioapic = ioapic; msi = msi }) (lowered_status pic ioapic msi)
+  lowered_says None None None quiet = record { pic = refl; other = refl; first = refl; unrouted = (λ _. record { pic = refl; ioapic = refl; msi = refl }, λ _. refl) }
+  lowered_says None None (Some word) quiet = absurd (true≢false (sym quiet))
+  lowered_says None (Some pin) msi quiet = absurd (true≢false (sym quiet))
+  lowered_says (Some pin) ioapic msi quiet = absurd (true≢false (sym quiet))
+
+  lower_says : (targets : Targets) (source : Source) (ws : Wishes) → Says b targets (run (lower targets source) b ws)
+  lower_says targets source ws =
+      says_after b targets (λ _. reply (Signal (lowered_status targets.pic targets.ioapic targets.msi))) (let_go targets source) b ws (let_go_spares b targets source) (λ n. refl)
+      (λ _ d vs same. record {
+        status = lowered_status targets.pic targets.ioapic targets.msi;
+        answers = refl;
+        effect = λ quiet. (lowered_says targets.pic targets.ioapic targets.msi quiet, same);
+      })
+
+  -- ---- each call
+
+  abbrev routing : Routing
+  routing = routing_of_registry b.registry b.shape.tick
+
+  -- a call has targets of which its status is said
+  record Answered (call : Call) (o : Outcome (Unit {0})) : Type 0 where
+    pub targets : Targets
+    pub signalled : signal_targets routing b.shape call ≡ Some targets
+    pub says : Says b targets o
+
+  -- or it answers no status
+  abbrev Judged : Call → Outcome (Unit {0}) → Type 0
+  Judged call o = Answered call o ⊎ (some_status o.log.answers ≡ false)
+
+  line_judged : (gsi line : ℕ) (high : Bool) (n : ℕ) (ws : Wishes) → Answered (calls.Line gsi line high) (run (plan_in_range routing b.shape n (calls.Line gsi line high)) b ws)
+  line_judged gsi line true n ws = record {
+    targets = routing.targets gsi;
+    signalled = refl;
+    says = says_before b (routing.targets gsi) (λ _. done tt) (raise b.shape.cpus (routing.targets gsi) (Line line) shown) b ws (raise_says b.tick (Line line) ws (routing.targets gsi)) (λ _. tt);
+  }
+  line_judged gsi line false n ws = record { targets = routing.targets gsi; signalled = refl; says = lower_says (routing.targets gsi) (Line line) ws }
+
+  message_judged : (address payload n : ℕ) (ws : Wishes) → Answered (calls.Msi address payload) (run (plan_in_range routing b.shape n (calls.Msi address payload)) b ws)
+  message_judged address payload n ws = record {
+    targets = message_target address payload;
+    signalled = refl;
+    says = says_before b (message_target address payload) (λ _. done tt) (send b.shape.cpus (message_in address payload) None (shown None)) b ws
+        (send_says b stand (message_target address payload) b.tick b.pic b.ioapic (message_in address payload) refl refl ws) (λ _. tt);
+  }
+
+  write_judged : (counter count : ℕ) (trigger : Option TriggerWord) → routing.trigger counter ≡ trigger → (ws : Wishes) → Judged (calls.Write counter count) (run (write routing b.shape trigger counter count) b ws)
+  write_judged counter count None is ws = inr (mute_answers (write routing b.shape None counter count) b ws (λ counts. unless_mute (write_reasons counts counter count) _ (refl, tt)))
+  write_judged counter count (Some trigger) is ws = elim (nat_eq count 0) as (λ t. Judged (calls.Write counter count) (run (if t then reply Done else trigger_written routing b.shape trigger) b ws)) [
+    | true ↦ inr refl
+    | false ↦ inl (record {
+      targets = routing.targets trigger.gsi;
+      signalled = ap (option_map (λ (t : TriggerWord). routing.targets t.gsi)) is;
+      says = says_before b (routing.targets trigger.gsi) (λ _. done tt) (inject b.shape.cpus (routing.targets trigger.gsi) (source_of trigger.resample) shown) b ws
+          (inject_says b.tick (source_of trigger.resample) ws (routing.targets trigger.gsi)) (λ _. tt);
+    })
+  ]
+
+  tick_judged : (injects : Bool) (ws : Wishes) → Judged calls.Tick (run (tick_or_hold routing b.shape (ticked b.tick) injects) (record b { tick = ticked b.tick }) ws)
+  tick_judged true ws = inl (record {
+    targets = routing.targets b.shape.tick;
+    signalled = refl;
+    says = says_before b (routing.targets b.shape.tick) (λ status. change parts.Tick (λ tick. tick_injected tick status)) (inject b.shape.cpus (routing.targets b.shape.tick) Tick shown) (record b { tick = ticked b.tick }) ws
+        (inject_says (ticked b.tick) Tick ws (routing.targets b.shape.tick)) (λ status tick. (tt, tt));
+  })
+  tick_judged false ws = inr refl
+
+  mute_judged : (n : ℕ) (call : Call) (ws : Wishes) → Mute (plan_in_range routing b.shape n call) → Judged call (run (plan_in_range routing b.shape n call) b ws)
+  mute_judged n call ws h = inr (mute_answers (plan_in_range routing b.shape n call) b ws h)
+
+  range_judged : (n : ℕ) (call : Call) (ws : Wishes) → Judged call (run (plan_in_range routing b.shape n call) b ws)
+  range_judged n (calls.Line gsi line high) ws = inl (line_judged gsi line high n ws)
+  range_judged n (calls.Msi address payload) ws = inl (message_judged address payload n ws)
+  range_judged n (calls.Write counter count) ws = write_judged counter count (routing.trigger counter) refl ws
+  range_judged n calls.Tick ws = tick_judged (tick_injects b.tick) ws
+  range_judged n (calls.Take counter) ws = mute_judged n (calls.Take counter) ws (call_mute routing b.shape n (calls.Take counter) refl)
+  range_judged n (calls.Assign trigger gsi resample) ws = mute_judged n (calls.Assign trigger gsi resample) ws (call_mute routing b.shape n (calls.Assign trigger gsi resample) refl)
+  range_judged n (calls.Deassign trigger gsi) ws = mute_judged n (calls.Deassign trigger gsi) ws (call_mute routing b.shape n (calls.Deassign trigger gsi) refl)
+  range_judged n (calls.Reroute rows) ws = mute_judged n (calls.Reroute rows) ws (call_mute routing b.shape n (calls.Reroute rows) refl)
+  range_judged n (calls.Attach space address len counter want) ws = mute_judged n (calls.Attach space address len counter want) ws (call_mute routing b.shape n (calls.Attach space address len counter want) refl)
+  range_judged n (calls.Detach space address len counter want) ws = mute_judged n (calls.Detach space address len counter want) ws (call_mute routing b.shape n (calls.Detach space address len counter want) refl)
+  range_judged n (calls.Watch counter gsi) ws = mute_judged n (calls.Watch counter gsi) ws (call_mute routing b.shape n (calls.Watch counter gsi) refl)
+  range_judged n (calls.Unwatch counter gsi) ws = mute_judged n (calls.Unwatch counter gsi) ws (call_mute routing b.shape n (calls.Unwatch counter gsi) refl)
+  range_judged n (calls.TickMode reinject) ws = mute_judged n (calls.TickMode reinject) ws (call_mute routing b.shape n (calls.TickMode reinject) refl)
+  range_judged n (calls.PortOut port len value) ws = mute_judged n (calls.PortOut port len value) ws (call_mute routing b.shape n (calls.PortOut port len value) refl)
+  range_judged n (calls.PortIn port len) ws = mute_judged n (calls.PortIn port len) ws (call_mute routing b.shape n (calls.PortIn port len) refl)
+  range_judged n (calls.Store address len value) ws = mute_judged n (calls.Store address len value) ws (call_mute routing b.shape n (calls.Store address len value) refl)
+  range_judged n (calls.Load address len) ws = mute_judged n (calls.Load address len) ws (call_mute routing b.shape n (calls.Load address len) refl)
+  range_judged n calls.Ack ws = mute_judged n calls.Ack ws (call_mute routing b.shape n calls.Ack refl)
+  range_judged n calls.Inta ws = mute_judged n calls.Inta ws (call_mute routing b.shape n calls.Inta refl)
+  range_judged n calls.Eoi ws = mute_judged n calls.Eoi ws (call_mute routing b.shape n calls.Eoi refl)
+
+  call_judged : (caller : Caller) (call : Call) (ws : Wishes) → Judged call (run (plan_on b caller call) b ws)
+  call_judged caller call ws = of_refusal (first_of (range_reasons b.shape call))
+    where
+      of_refusal : (refusal : Option Refusal) → Judged call (run (unless_refused refusal (plan_in_range routing b.shape (number_of caller) call)) b ws)
+      of_refusal None = range_judged (number_of caller) call ws
+      of_refusal (Some refusal) = inr refl
+
+-- ---- each step
+
+-- the status that is replied first, if there is one
+abbrev first_status : List Reply → Status
+first_status (Signal status ∷ rs) = status
+first_status _ = Lowered
+
+-- the counts of a board tell nothing of its local APICs
+counted_requests : (t : Bool) (d : Board) (n : ℕ) → (part_of (with_counts t d) (Lapic n)).irr ≡ (part_of d (Lapic n)).irr
+counted_requests true d n = refl
+counted_requests false d n = refl
+
+pub coalesced_and_ignored_change_no_request : CoalescedAndIgnoredChangeNoRequest
+coalesced_and_ignored_change_no_request b e c stand s status replied quiet = of_judged (call_judged b stand e.caller e.call s.wishes)
+  where
+    answers : (outcome_of b e s.wishes).log.answers ≡ Signal status ∷ []
+    answers = s.replied ∙ ap (λ r. r ∷ []) replied
+
+    of_judged : Judged b stand e.call (outcome_of b e s.wishes) → ChangesNoRequest b e c status
+    of_judged (inr none) = absurd (true≢false (sym (ap some_status answers) ∙ none))
+    of_judged (inl one) =
+        let same : one.says.status ≡ status = ap first_status (sym one.says.answers ∙ answers) in
+        let effect = one.says.effect (ap is_without_effect same ∙ quiet) in
+        record {
+          targets = one.targets;
+          signalled = one.signalled;
+          said = subst (IsSaidOf b one.targets) same effect.0;
+          requests = λ n.
+              sym (ap (λ x. (part_of x (Lapic n)).irr) s.leads)
+              ∙ counted_requests (would_publish b e.call) (outcome_of b e s.wishes).board n
+              ∙ effect.1 n;
+        }

@@ -1,0 +1,388 @@
+-- A sending whose status is without effect: what the status says, and that it changes no request.
+use Rattle.std.proofs.Common.{◌≡◌, ℕ, zero, suc, ◌<◌, ◌%◌, Bool, true, false, not, ◌&&◌, ◌||◌, nat_eq, nat_lt, if◌then◌else◌, ◌⊎◌, inl, inr, List, [], ◌∷◌, ◌++◌, length, refl, sym, ap, ◌∙◌, subst, append-nil, true≢false, is_some, arith, Some, None}
+use Rattle.std.specs.Prelude.{slice_get, slice_set, unwrap_or}
+use Rattle.std.specs.declared.option.Option.{Option}
+use Rattle.std.specs.FinSet as set
+use Rattle.std.specs.FinSet.{contains-empty, same_set, nat_cmp-IsAntisymmetric}
+use Rattle.std.specs.Ordering.{nat_cmp}
+use Rattle.std.specs.Cmp.{nat_cmp_total}
+use Rattle.irq_bits.specs.Members.{Numbers}
+use Rattle.irq_bits.specs.SetLemmas.{contains-insert_number}
+use Rattle.irq_base.specs.declared.message.Message.{Message}
+use Rattle.irq_base.specs.declared.message.Mode.{Mode}
+use Rattle.irq_base.specs.declared.message.Mode.TheVariants.{Fixed, Lowest, Smi, Nmi, Init, Startup, ExtInt, Reserved}
+use Rattle.irq_base.specs.declared.message.Targets.{Targets}
+use Rattle.irq_base.specs.declared.reply.Reply.TheVariants.{Signal}
+use Rattle.irq_base.specs.declared.shape.Part.{Part}
+use Rattle.irq_base.specs.declared.shape.Part.TheVariants.{Registry, Counters, Tick, Pic, Ioapic, Lapic}
+use Rattle.irq_base.specs.declared.status.Cause.{Cause}
+use Rattle.irq_base.specs.declared.status.Cause.TheVariants.{NoProcessor, BadVector, Mode as BadMode}
+use Rattle.irq_base.specs.declared.status.Status.{Status}
+use Rattle.pic_8259a.specs.declared.chip.Chip.{Chip}
+use Rattle.pic_8259a.specs.declared.chip.PinOutcome.{PinOutcome}
+use Rattle.pic_8259a.specs.declared.chip.PinOutcome.TheVariants as outcomes
+use Rattle.pic_8259a.specs.declared.pair.Pair.{Pair}
+use Rattle.pic_8259a.specs.Accesses.{outcome_of as chip_outcome}
+use Rattle.pic_8259a.specs.Pair.{pin_outcome}
+use Rattle.lapic.specs.Registers.{LocalApic, power_on, is_enabled}
+use Rattle.lapic.specs.Messages.{is_nmi, is_taken, accepted, with_error, with_request}
+use Rattle.tick_reinject.specs.declared.state.TickState.{TickState}
+use Rattle.board_model.specs.Board.{ValueOf, Board, part_of, with_part}
+use Rattle.board_model.specs.Chips.{PicPart, IoapicPart, pair_of}
+use Rattle.board_model.specs.Statuses.{Sent, nobody, is_empty, TargetAnswer, newly_taken, stood_already, no_effect, message_answer, stands, status_of}
+use Rattle.board_model.specs.Plan.{About, the_reply, Plan, done, look, put, tell, answer, choose, ◌>>=◌}
+use Rattle.board_model.specs.Run.{Wishes, Outcome, run}
+use Rattle.board_model.proofs.Lens.{part_of-with_other}
+use Rattle.board_model.proofs.Sequence.{run-bind}
+use Rattle.board_raise.specs.Named.{Processor, named_by, numbers_of, MayReach}
+use Rattle.board_raise.specs.Send.{ignore, numbers_below, reached_by, see_each, is_illegal, accept_each, deliver, refuse_vector, send_to, send}
+use Rattle.board_raise.specs.Signal.{pic_answer}
+use Rattle.board_raise.specs.Laws.{processors_on, named_on, HasProcessors, IsSent, IsSending, has_request_on}
+use Rattle.board_raise.proofs.SendExactly.{after_seen, wishes_reach_exactly}
+use Rattle.board_raise.proofs.EffectNamed.{has_any, named_alike}
+use Rattle.board_laws.specs.Effect.{message_on, PicStood, IoapicStood, RequestStood, pic_answer_on, message_answer_by, message_answer_on, other_answer_on, IsSaidOf, is_without_effect, SameRequests}
+use Rattle.board_laws.proofs.EffectStood.{has_stood, pin_stood, ignored_for}
+
+-- ---- plans that answer nothing and leave the requests of a board
+
+-- a value of a part with the requests that the board has there
+abbrev pub HasRequests : Board → (p : Part) → ValueOf p → Type 0
+HasRequests b Registry v = Unit {0}
+HasRequests b Counters v = Unit {0}
+HasRequests b Tick v = Unit {0}
+HasRequests b Pic v = Unit {0}
+HasRequests b Ioapic v = Unit {0}
+HasRequests b (Lapic n) v = v.irr ≡ (part_of b (Lapic n)).irr
+
+-- a plan answers nothing, sends nothing and writes such values alone
+abbrev pub Spares : {A : Type 0} → Board → Plan A → Type 0
+Spares b (done a) = Unit {0}
+Spares b (look p k) = (v : ValueOf p) → Spares b (k v)
+Spares b (put p v rest) = HasRequests b p v × Spares b rest
+Spares b (tell x rest) = Spares b rest
+Spares b (answer r rest) = ⊥
+Spares b (choose m about g k) = ⊥
+
+module _ (b : Board) where
+  pub spares_bind : {A B : Type 0} (f : A → Plan B) (m : Plan A) → Spares b m → ((a : A) → Spares b (f a)) → Spares b (m >>= f)
+  spares_bind f (done a) h next = next a
+  spares_bind f (look p k) h next = λ v. spares_bind f (k v) (h v) next
+  spares_bind f (put p v rest) h next = (h.0, spares_bind f rest h.1 next)
+  spares_bind f (tell x rest) h next = spares_bind f rest h next
+  spares_bind f (answer r rest) h next = absurd h
+  spares_bind f (choose m about g k) h next = absurd h
+
+  spares_answers : {A : Type 0} (m : Plan A) (c : Board) (ws : Wishes) → Spares b m → (run m c ws).log.answers ≡ []
+  spares_answers (done a) c ws h = refl
+  spares_answers (look p k) c ws h = spares_answers (k (part_of c p)) c ws (h (part_of c p))
+  spares_answers (put p v rest) c ws h = spares_answers rest (with_part c p v) ws h.1
+  spares_answers (tell x rest) c ws h = spares_answers rest c ws h
+  spares_answers (answer r rest) c ws h = absurd h
+  spares_answers (choose m about g k) c ws h = absurd h
+
+  -- where one is written, whether it is there or not, its requests are those of the board
+  written_there : (xs : List LocalApic) (n : ℕ) (v d : LocalApic) (r : Numbers) → v.irr ≡ r → (unwrap_or (slice_get xs n) d).irr ≡ r → (unwrap_or (slice_get (slice_set xs n v) n) d).irr ≡ r
+  written_there [] n v d r new old = old
+  written_there (x ∷ xs) zero v d r new old = new
+  written_there (x ∷ xs) (suc n) v d r new old = written_there xs n v d r new old
+
+  with_requests : (c : Board) (p : Part) (v : ValueOf p) → HasRequests b p v → SameRequests b c → SameRequests b (with_part c p v)
+  with_requests c Registry v h same = same
+  with_requests c Counters v h same = same
+  with_requests c Tick v h same = same
+  with_requests c Pic v h same = same
+  with_requests c Ioapic v h same = same
+  with_requests c (Lapic n) v h same = λ m. elim (nat_eq n m) as (λ t. nat_eq n m ≡ t → (part_of (with_part c (Lapic n) v) (Lapic m)).irr ≡ (part_of b (Lapic m)).irr) [
+    | true ↦ λ is. let e : n ≡ m = grind (is, arith) in
+        subst (λ k. (part_of (with_part c (Lapic n) v) (Lapic k)).irr ≡ (part_of b (Lapic k)).irr) e (written_there c.lapics n v (power_on n) (part_of b (Lapic n)).irr h (same n))
+    | false ↦ λ other. ap (λ (a : LocalApic). a.irr) (part_of-with_other c (Lapic n) (Lapic m) v other) ∙ same m
+  ] refl
+
+  pub spares_requests : {A : Type 0} (m : Plan A) (c : Board) (ws : Wishes) → Spares b m → SameRequests b c → SameRequests b (run m c ws).board
+  spares_requests (done a) c ws h same = same
+  spares_requests (look p k) c ws h same = spares_requests (k (part_of c p)) c ws (h (part_of c p)) same
+  spares_requests (put p v rest) c ws h same = spares_requests rest (with_part c p v) ws h.1 (with_requests c p v h.0 same)
+  spares_requests (tell x rest) c ws h same = spares_requests rest c ws h same
+  spares_requests (answer r rest) c ws h same = absurd h
+  spares_requests (choose m about g k) c ws h same = absurd h
+
+-- ---- plans that answer one status
+
+-- an outcome answers a status alone, which, where it is without effect, is said of the targets and leaves the requests
+pub record Says {A : Type 0} (b : Board) (targets : Targets) (o : Outcome A) : Type 0 where
+  pub status : Status
+  pub answers : o.log.answers ≡ Signal status ∷ []
+  pub effect : is_without_effect status ≡ true → IsSaidOf b targets status × SameRequests b o.board
+
+module _ (b : Board) (targets : Targets) {A B : Type 0} (f : A → Plan B) (m : Plan A) (c : Board) (ws : Wishes) where
+  -- after the status the rest is spared
+  pub says_before : Says b targets (run m c ws) → ((a : A) → Spares b (f a)) → Says b targets (run (m >>= f) c ws)
+  says_before first next =
+      let o = run m c ws in
+      subst (λ (x : Outcome B). Says b targets x) (sym (run-bind f m c ws)) (record {
+        status = first.status;
+        answers = ap (λ l. o.log.answers ++ l) (spares_answers b (f o.value) o.board o.wishes (next o.value)) ∙ append-nil o.log.answers ∙ first.answers;
+        effect = λ quiet. let here = first.effect quiet in (here.0, spares_requests b (f o.value) o.board o.wishes (next o.value) here.1);
+      })
+
+  -- before the status all is spared
+  pub says_after : Spares b m → SameRequests b c → ((a : A) (d : Board) (vs : Wishes) → SameRequests b d → Says b targets (run (f a) d vs)) → Says b targets (run (m >>= f) c ws)
+  says_after first same next =
+      let o = run m c ws in
+      let later = next o.value o.board o.wishes (spares_requests b m c ws first same) in
+      subst (λ (x : Outcome B). Says b targets x) (sym (run-bind f m c ws)) (record {
+        status = later.status;
+        answers = ap (λ l. l ++ (run (f o.value) o.board o.wishes).log.answers) (spares_answers b m c ws first) ∙ later.answers;
+        effect = later.effect;
+      })
+
+-- ---- what a status says
+
+-- a pin that is raised is not lowered
+abbrev is_lowered : PinOutcome → Bool
+is_lowered outcomes.Lowered = true
+is_lowered _ = false
+
+chip_never_lowers : (c : Chip) (pin : ℕ) → is_lowered (chip_outcome c pin true) ≡ false
+chip_never_lowers c pin = elim (set.contains c.imr pin) as (λ t. is_lowered (if t then outcomes.Masked else if not (set.contains c.high pin) && (set.contains c.elcr pin || not (set.contains c.latches pin)) then outcomes.New else outcomes.Stood) ≡ false) [
+  | true ↦ refl
+  | false ↦ elim (not (set.contains c.high pin) && (set.contains c.elcr pin || not (set.contains c.latches pin))) as (λ t. is_lowered (if t then outcomes.New else outcomes.Stood) ≡ false) [ true ↦ refl | false ↦ refl ]
+]
+
+never_lowers : (p : Pair) (pin : ℕ) → is_lowered (pin_outcome p pin true) ≡ false
+never_lowers p pin = elim (nat_lt pin 8) as (λ t. is_lowered (if t then chip_outcome p.master pin true else chip_outcome p.slave (pin % 8) true) ≡ false) [
+  | true ↦ chip_never_lowers p.master pin
+  | false ↦ chip_never_lowers p.slave (pin % 8)
+]
+
+module _ (b : Board) (targets : Targets) where
+  pic_stood : (pin : Option ℕ) → targets.pic ≡ pin → Some stood_already ≡ pic_answer_on b pin → PicStood b targets
+  pic_stood None there says = absurd (true≢false (ap is_some says))
+  pic_stood (Some pin) there says = of_outcome (pin_outcome (pair_of b.pic) pin true) refl (sym (ap stands says))
+    where
+      of_outcome : (o : PinOutcome) → pin_outcome (pair_of b.pic) pin true ≡ o → stands (Some (pic_answer o)) ≡ true → PicStood b targets
+      of_outcome outcomes.New is h = absurd (true≢false (sym h))
+      of_outcome outcomes.Stood is h = let found = pin_stood b.pic pin (ap has_stood is) in record { pin = pin; there = there; unmasked = found.0; stood = found.1 }
+      of_outcome outcomes.Masked is h = absurd (true≢false (sym h))
+      of_outcome outcomes.Lowered is h = absurd (true≢false (sym (ap is_lowered is) ∙ never_lowers (pair_of b.pic) pin))
+
+  -- what the other target's answer says, the request standing at these processors
+  abbrev pub OtherSays : Option TargetAnswer → Numbers → Type 0
+  OtherSays None stood = None ≡ other_answer_on b b.shape.cpus targets.ioapic targets.msi
+  OtherSays (Some newly_taken) stood = Unit {0}
+  OtherSays (Some stood_already) stood = IoapicStood b targets ⊎ RequestStood b targets stood
+  OtherSays (Some (no_effect cause)) stood = Some (no_effect cause) ≡ other_answer_on b b.shape.cpus targets.ioapic targets.msi
+
+  pub said_of : (pic other : Option TargetAnswer) (sent : Sent) → pic ≡ pic_answer_on b targets.pic → OtherSays other sent.stood → is_without_effect (status_of pic other sent) ≡ true → IsSaidOf b targets (status_of pic other sent)
+  said_of (Some newly_taken) other sent is says quiet = absurd (true≢false (sym quiet))
+  said_of None (Some newly_taken) sent is says quiet = absurd (true≢false (sym quiet))
+  said_of (Some stood_already) (Some newly_taken) sent is says quiet = absurd (true≢false (sym quiet))
+  said_of (Some (no_effect cause)) (Some newly_taken) sent is says quiet = absurd (true≢false (sym quiet))
+  said_of (Some stood_already) None sent is says quiet = inl (pic_stood targets.pic refl is)
+  said_of (Some stood_already) (Some stood_already) sent is says quiet = inl (pic_stood targets.pic refl is)
+  said_of (Some stood_already) (Some (no_effect cause)) sent is says quiet = inl (pic_stood targets.pic refl is)
+  said_of None (Some stood_already) sent is says quiet = inr says
+  said_of (Some (no_effect cause)) (Some stood_already) sent is says quiet = inr says
+  said_of None None sent is says quiet = ignored_for b targets None None is says refl refl
+  said_of None (Some (no_effect cause)) sent is says quiet = ignored_for b targets None (Some (no_effect cause)) is says refl refl
+  said_of (Some (no_effect cause)) None sent is says quiet = ignored_for b targets (Some (no_effect cause)) None is says refl refl
+  said_of (Some (no_effect cause)) (Some (no_effect other)) sent is says quiet = ignored_for b targets (Some (no_effect cause)) (Some (no_effect other)) is says refl refl
+
+-- where the message is newly taken, there is an effect
+newly_has_effect : (pic : Option TargetAnswer) (sent : Sent) → is_without_effect (status_of pic (Some newly_taken) sent) ≡ false
+newly_has_effect None sent = refl
+newly_has_effect (Some newly_taken) sent = refl
+newly_has_effect (Some stood_already) sent = refl
+newly_has_effect (Some (no_effect cause)) sent = refl
+
+-- ---- what a local APIC keeps of its requests
+
+-- what is there already is not put in
+insert_there : (s : Numbers) (k : ℕ) → set.contains s k ≡ true → set.insert s k ≡ s
+insert_there s k there = same_set nat_cmp_total nat_cmp-IsAntisymmetric _ _ (λ q. contains-insert_number s k q ∙ at q)
+  where
+    at : (q : ℕ) → (nat_eq q k || set.contains s q) ≡ set.contains s q
+    at q = elim (nat_eq q k) as (λ t. nat_eq q k ≡ t → (t || set.contains s q) ≡ set.contains s q) [
+      | true ↦ λ is. let e : q ≡ k = grind (is, arith) in sym (ap (set.contains s) e ∙ there)
+      | false ↦ λ _. refl
+    ] refl
+
+by_tests : (a : LocalApic) (m : Message) (nmi enabled low : Bool) → (if nmi then a.nmi else set.contains a.irr m.vector) ≡ true
+    → (if nmi then record a { nmi = true } else if not enabled then a else if low then with_error a 6 else with_request a m).irr ≡ a.irr
+by_tests a m true enabled low has = refl
+by_tests a m false false low has = refl
+by_tests a m false true true has = refl
+by_tests a m false true false has = insert_there a.irr m.vector has
+
+-- a message whose request is there changes no request
+had_stays : (a : LocalApic) (m : Message) → (if is_nmi m.mode then a.nmi else set.contains a.irr m.vector) ≡ true → (accepted a m).irr ≡ a.irr
+had_stays a m has = by_tests a m (is_nmi m.mode) (is_enabled a) (nat_lt m.vector 16) has
+
+-- nor does a message with an illegal vector
+illegal_stays : (a : LocalApic) (m : Message) → is_illegal m ≡ true → (accepted a m).irr ≡ a.irr
+illegal_stays a m illegal = of_tests (is_nmi m.mode) (is_enabled a) (nat_lt m.vector 16) illegal
+  where
+    of_tests : (nmi enabled low : Bool) → (if nmi then false else low) ≡ true → (if nmi then record a { nmi = true } else if not enabled then a else if low then with_error a 6 else with_request a m).irr ≡ a.irr
+    of_tests true enabled low h = absurd (true≢false (sym h))
+    of_tests false false low h = refl
+    of_tests false true true h = refl
+    of_tests false true false h = absurd (true≢false (sym h))
+
+-- ---- a sending
+
+-- a set that may be reached has a member
+someone_reached : (mode : Mode) (p : Processor) (ps : List Processor) (s : Numbers) → MayReach mode (p ∷ ps) s → (k : ℕ) × (set.contains s k ≡ true)
+someone_reached mode p ps s may = of_mode mode may
+  where
+    first : s ≡ numbers_of (p ∷ ps) → (k : ℕ) × (set.contains s k ≡ true)
+    first is = (p.number, ap (λ t. set.contains t p.number) is ∙ contains-insert_number (numbers_of ps) p.number p.number ∙ itself p.number (set.contains (numbers_of ps) p.number))
+      where
+        itself : (n : ℕ) (t : Bool) → (nat_eq n n || t) ≡ true
+        itself n t = grind arith
+
+    of_mode : (mode : Mode) → MayReach mode (p ∷ ps) s → (k : ℕ) × (set.contains s k ≡ true)
+    of_mode Lowest (k, q, below, at, one) = (q.number, ap (λ t. set.contains t q.number) one.alone ∙ contains-insert_number set.empty q.number q.number ∙ itself q.number (set.contains set.empty q.number))
+      where
+        itself : (n : ℕ) (t : Bool) → (nat_eq n n || t) ≡ true
+        itself n t = grind arith
+    of_mode Fixed is = first is
+    of_mode Smi is = first is
+    of_mode Nmi is = first is
+    of_mode Init is = first is
+    of_mode Startup is = first is
+    of_mode ExtInt is = first is
+    of_mode Reserved is = first is
+
+-- an empty set has no member
+no_member : (s : Numbers) (k : ℕ) → is_empty s ≡ true → set.contains s k ≡ false
+no_member s k none = let e : s ≡ set.empty = set.empty_of_len s (grind (none, arith)) in ap (λ t. set.contains t k) e ∙ contains-empty nat_cmp k
+
+module _ (b : Board) (stand : HasProcessors b b.shape.cpus) (targets : Targets) (u : TickState) (v : PicPart) (w : IoapicPart) where
+  -- the board, but for the tick, the pair and the I/O APIC
+  abbrev pub d : Board
+  d = record b { tick = u; pic = v; ioapic = w }
+
+  stand_still : HasProcessors d b.shape.cpus
+  stand_still = record { places = stand.places; numbers = stand.numbers }
+
+  processors_alike : (ns : List ℕ) → processors_on d ns ≡ processors_on b ns
+  processors_alike [] = refl
+  processors_alike (n ∷ ns) = ap (λ l. record { number = n; apic = part_of b (Lapic n) } ∷ l) (processors_alike ns)
+
+  abbrev about : About
+  about = the_reply (pic_answer_on b targets.pic)
+
+  -- a target answers without a message sent
+  pub shown_says : {A : Type 0} (a : A) (other : Option TargetAnswer) (ws : Wishes) → OtherSays b targets other set.empty → Says b targets (run (answer (Signal (status_of (pic_answer_on b targets.pic) other nobody)) (done a)) d ws)
+  shown_says a other ws says = record {
+    status = status_of (pic_answer_on b targets.pic) other nobody;
+    answers = refl;
+    effect = λ quiet. (said_of b targets (pic_answer_on b targets.pic) other nobody refl says quiet, λ n. refl);
+  }
+
+  module _ (message : Message) (sent : message_on b targets.ioapic targets.msi ≡ Some message) (answers : other_answer_on b b.shape.cpus targets.ioapic targets.msi ≡ Some (message_answer_on b b.shape.cpus message)) (ws : Wishes) where
+    abbrev looked : List Processor
+    looked = processors_on d (reached_by message None b.shape.cpus)
+
+    abbrev f : List Processor → Plan TargetAnswer
+    f processors = send_to message None about processors (named_by message None processors)
+
+    -- the cause that is told is the one by the rule
+    cause_says : (cause : Cause) → message_answer_on b b.shape.cpus message ≡ no_effect cause → OtherSays b targets (Some (no_effect cause)) set.empty
+    cause_says cause is = sym (answers ∙ ap Some is)
+
+    named_is : named_on d b.shape.cpus message None ≡ named_on b b.shape.cpus message None
+    named_is = ap (named_by message None) (processors_alike (numbers_below b.shape.cpus))
+
+    -- the illegal vector is recorded alone
+    refused_spares : (takers : Numbers) (ns : List ℕ) → is_illegal message ≡ true → Spares b (accept_each message takers (processors_on d ns))
+    refused_spares takers [] illegal = tt
+    refused_spares takers (n ∷ ns) illegal = elim (set.contains takers n) as (λ t. Spares b (if t then put (Lapic n) (accepted (part_of b (Lapic n)) message) (accept_each message takers (processors_on d ns)) else accept_each message takers (processors_on d ns))) [
+      | true ↦ (illegal_stays (part_of b (Lapic n)) message illegal, refused_spares takers ns illegal)
+      | false ↦ refused_spares takers ns illegal
+    ]
+
+    -- a message that was sent
+    module _ (p : Processor) (ps : List Processor) (taken : is_taken message.mode ≡ true) (named : named_on d b.shape.cpus message None ≡ p ∷ ps) (legal : is_illegal message ≡ false) where
+      is_sent : IsSent message (named_on d b.shape.cpus message None)
+      is_sent = let some : 0 < length (p ∷ ps) = grind arith in record { taken = taken; someone = subst (λ l. 0 < length l) (sym named) some; legal = legal }
+
+      sending_says : {s : Numbers} (o : Outcome TargetAnswer) → MayReach message.mode (named_on d b.shape.cpus message None) s → IsSending message None about d s o → Says b targets o
+      sending_says {s} o may is = record {
+        status = status_of (pic_answer_on b targets.pic) (Some (message_answer is.sent)) is.sent;
+        answers = is.answers;
+        effect = by_new (is_empty is.sent.new) refl;
+      }
+        where
+          member : (k : ℕ) × (set.contains s k ≡ true)
+          member = someone_reached message.mode p ps s (subst (λ l. MayReach message.mode l s) named may)
+
+          -- where nobody newly took it, each one that it reached had the request
+          had : is_empty is.sent.new ≡ true → (k : ℕ) → set.contains s k ≡ true → has_request_on b message k ≡ true
+          had none k reached = of_test (has_request_on b message k) refl
+            where
+              of_test : (t : Bool) → has_request_on b message k ≡ t → t ≡ true
+              of_test true e = refl
+              of_test false e = absurd (true≢false (sym (ap (λ t. t && not (has_request_on b message k)) reached ∙ ap not e) ∙ sym (is.new k) ∙ no_member is.sent.new k none))
+
+          requests : is_empty is.sent.new ≡ true → SameRequests b o.board
+          requests none n = ap (λ (a : LocalApic). a.irr) (is.after n) ∙ (elim (set.contains s n) as (λ t. set.contains s n ≡ t → (if t then accepted (part_of b (Lapic n)) message else part_of b (Lapic n)).irr ≡ (part_of b (Lapic n)).irr) [
+            | true ↦ λ reached. had_stays (part_of b (Lapic n)) message (had none n reached)
+            | false ↦ λ _. refl
+          ] refl)
+
+          stood : is_empty is.sent.new ≡ true → RequestStood b targets is.sent.stood
+          stood none = record {
+            message = message;
+            sent = sent;
+            processor = member.0;
+            reached = is.stood member.0 ∙ ap (λ t. t && has_request_on b message member.0) member.1 ∙ had none member.0 member.1;
+            had = had none member.0 member.1;
+          }
+
+          by_new : (t : Bool) → is_empty is.sent.new ≡ t → is_without_effect (status_of (pic_answer_on b targets.pic) (Some (if t then stood_already else newly_taken)) is.sent) ≡ true → IsSaidOf b targets (status_of (pic_answer_on b targets.pic) (Some (if t then stood_already else newly_taken)) is.sent) × SameRequests b o.board
+          by_new true none quiet = (said_of b targets (pic_answer_on b targets.pic) (Some stood_already) is.sent refl (inr (stood none)) quiet, requests none)
+          by_new false some quiet = absurd (true≢false (sym quiet ∙ newly_has_effect (pic_answer_on b targets.pic) is.sent))
+
+      delivered_says : Says b targets (run (send b.shape.cpus message None about) d ws)
+      delivered_says = let only_so = (wishes_reach_exactly b.shape.cpus message None about d stand_still is_sent).only ws in sending_says (run (send b.shape.cpus message None about) d ws) only_so.1 only_so.2
+
+    to_named : is_taken message.mode ≡ true → (seen : List Processor) → named_by message None looked ≡ seen → run (send b.shape.cpus message None about) d ws ≡ run (send_to message None about looked seen) d ws
+    to_named taken seen is =
+        ap (λ t. run (if not t then ignore about BadMode else (see_each (reached_by message None b.shape.cpus) >>= f)) d ws) taken
+        ∙ after_seen f d (reached_by message None b.shape.cpus) ws
+        ∙ ap (λ l. run (send_to message None about looked l) d ws) is
+
+    by_mode : is_taken message.mode ≡ true → message_answer_on b b.shape.cpus message ≡ message_answer_by message (named_on b b.shape.cpus message None)
+    by_mode taken = ap (λ t. if not t then no_effect BadMode else message_answer_by message (named_on b b.shape.cpus message None)) taken
+
+    -- whatever processors are named
+    named_says : is_taken message.mode ≡ true → (seen all : List Processor) → named_by message None looked ≡ seen → named_on d b.shape.cpus message None ≡ all → has_any seen ≡ has_any all → Says b targets (run (send b.shape.cpus message None about) d ws)
+    named_says taken [] [] seen_is all_is alike =
+        subst (λ (o : Outcome TargetAnswer). Says b targets o) (sym (to_named taken [] seen_is))
+        (shown_says (no_effect NoProcessor) (Some (no_effect NoProcessor)) ws (cause_says NoProcessor (by_mode taken ∙ ap (message_answer_by message) (sym named_is ∙ all_is))))
+    named_says taken [] (p ∷ ps) seen_is all_is alike = absurd (true≢false (sym alike))
+    named_says taken (q ∷ qs) [] seen_is all_is alike = absurd (true≢false alike)
+    named_says taken (q ∷ qs) (p ∷ ps) seen_is all_is alike = of_vector (is_illegal message) refl
+      where
+        of_vector : (t : Bool) → is_illegal message ≡ t → Says b targets (run (send b.shape.cpus message None about) d ws)
+        of_vector false legal = delivered_says p ps taken all_is legal
+        of_vector true illegal =
+            subst (λ (o : Outcome TargetAnswer). Says b targets o)
+            (sym (to_named taken (q ∷ qs) seen_is ∙ ap (λ t. run (if t then refuse_vector message about looked (q ∷ qs) else deliver message None about looked (q ∷ qs)) d ws) illegal))
+            (says_after b targets (λ _. ignore about BadVector) (accept_each message (numbers_of (q ∷ qs)) looked) d ws (refused_spares (numbers_of (q ∷ qs)) (reached_by message None b.shape.cpus) illegal) (λ n. refl)
+            (λ _ c vs same. record {
+              status = status_of (pic_answer_on b targets.pic) (Some (no_effect BadVector)) nobody;
+              answers = refl;
+              effect = λ quiet. (said_of b targets (pic_answer_on b targets.pic) (Some (no_effect BadVector)) nobody refl (cause_says BadVector (by_mode taken ∙ ap (message_answer_by message) (sym named_is ∙ all_is) ∙ ap (λ t. if t then no_effect BadVector else newly_taken) illegal)) quiet, same);
+            }))
+
+    -- a sending whose status is the reply
+    pub send_says : Says b targets (run (send b.shape.cpus message None about) d ws)
+    send_says = of_mode (is_taken message.mode) refl
+      where
+        of_mode : (t : Bool) → is_taken message.mode ≡ t → Says b targets (run (send b.shape.cpus message None about) d ws)
+        of_mode true taken = named_says taken (named_by message None looked) (named_on d b.shape.cpus message None) refl refl (named_alike d b.shape.cpus message stand_still)
+        of_mode false other =
+            subst (λ (o : Outcome TargetAnswer). Says b targets o) (sym (ap (λ t. run (if not t then ignore about BadMode else (see_each (reached_by message None b.shape.cpus) >>= f)) d ws) other))
+            (shown_says (no_effect BadMode) (Some (no_effect BadMode)) ws (cause_says BadMode (ap (λ t. if not t then no_effect BadMode else message_answer_by message (named_on b b.shape.cpus message None)) other)))

@@ -1,0 +1,248 @@
+-- What plans leave whose acknowledges resample: the counts that their events tell, and no pin more for Resample.
+use Rattle.std.proofs.Common.{◌≡◌, ℕ, Bool, true, false, cond, if◌then◌else◌, List, [], ◌∷◌, ◌++◌, map, Some, None, refl, sym, ap, subst, ◌∙◌, append_assoc}
+use Rattle.std.specs.declared.option.Option.{Option}
+use Rattle.std.specs.Cmp.{unsigned_Decides}
+use Rattle.std.specs.FinMap as fin_map
+use Rattle.std.specs.FinSet as set
+use Rattle.std.specs.List.{find}
+use Rattle.std.proofs.lemmas.List.Sums.{fold-append}
+use Rattle.irq_base.specs.Counts.{signalled}
+use Rattle.irq_base.specs.declared.event.Event.{Event}
+use Rattle.irq_base.specs.declared.event.Event.TheVariants.{Acked, Resampled, Watched, Rang, Injected, Resent, Ipi}
+use Rattle.irq_base.specs.declared.event.Pin.{Pin}
+use Rattle.irq_base.specs.declared.event.Pin.TheVariants as pins
+use Rattle.irq_base.specs.declared.message.Source.TheVariants.{Resample}
+use Rattle.irq_base.specs.declared.shape.Part.TheVariants as parts
+use Rattle.source_levels.specs.Holds.{Holds, hold}
+use Rattle.irq_base.specs.Counts.{signalled_all}
+use Rattle.irqfd_set.specs.Rows.{has_resampler}
+use Rattle.resampler.specs.Resample.{resample_events}
+use Rattle.route_table.specs.Rows.{Table, is_same, targets_of}
+use Rattle.route_table.specs.Pins.{has_pin, gsi_of}
+use Rattle.board_model.specs.Registry.{RegistryPart}
+use Rattle.board_model.specs.Board.{Board, with_part}
+use Rattle.board_model.specs.Plan.{Plan, ◌>>=◌, ◌>>◌}
+use Rattle.board_model.specs.Run.{Wishes, Outcome, then_run, run}
+use Rattle.board_model.proofs.Sequence.{run-bind}
+use Rattle.board_raise.specs.Signal.{let_go_pic, let_go_ioapic}
+use Rattle.board_ack.specs.Acknowledge.{say_each, signal_each}
+use Rattle.board_laws.specs.Resampling.{counter_told, counters_told, IsReleased}
+use Rattle.board_laws.proofs.ResamplingPlans.{Care, Unheld, AreQuiet, Minds, Leaves, leaves, gone}
+
+-- ---- the pins of a GSI
+
+find_passes : (p : ℕ → Bool) (xs : List ℕ) (g : ℕ) → find p xs ≡ Some g → p g ≡ true
+find_passes p [] g e = cc
+find_passes p (x ∷ xs) g e =
+    elim (p x) as (λ b. p x ≡ b → cond b (Some x) (find p xs) ≡ Some g → p g ≡ true) [
+      | true ↦ λ on found. let same : x ≡ g = cc in ap p (sym same) ∙ on
+      | false ↦ λ _ rest. find_passes p xs g rest
+    ] refl e
+
+-- a GSI goes to each pin that is its own
+pub has_it : (table : Table) (pin : Pin) (gsi : ℕ) → gsi_of table pin ≡ Some gsi → has_pin pin (targets_of table gsi) ≡ true
+unfolding gsi_of
+has_it table pin gsi e = find_passes (λ g. has_pin pin (targets_of table g)) (fin_map.keys table) gsi e
+
+pub same_number : (o : Option ℕ) (n : ℕ) → is_same o (Some n) ≡ true → o ≡ Some n
+same_number None n e = cc
+same_number (Some m) n e = ap Some ((unsigned_Decides m n).0 e)
+
+-- ---- what an outcome tells
+
+-- Resample holds no pin more
+abbrev pub NoMore : Holds → Holds → Type 0
+NoMore old new = Unheld (λ n. set.contains old (hold n Resample) ≡ false) new
+
+pub no_more : (a b c : Holds) → NoMore a b → NoMore b c → NoMore a c
+no_more a b c one two = λ n free. two n (one n free)
+
+module _ (r : RegistryPart) where
+  -- after the Acked of a GSI with resamplers comes a Resampled for each of them, and on the last board Resample holds no pin
+  -- of the GSI
+  pub record Resamples (last : Board) (gsi : ℕ) (after : List Event) : Type 0 where
+    pub more : List Event
+    pub events : after ≡ resample_events r.irqfds gsi ++ more
+    pub pic : IsReleased r gsi last.pic.holds pins.Pic
+    pub ioapic : IsReleased r gsi last.ioapic.holds pins.Ioapic
+
+  abbrev pub Followed : Board → Event → List Event → Type 0
+  Followed last (Acked pin (Some gsi)) after = has_resampler r.irqfds gsi ≡ true → Resamples last gsi after
+  Followed last _ after = Unit {0}
+
+  abbrev pub Follows : Board → List Event → Type 0
+  Follows last [] = Unit {0}
+  Follows last (event ∷ events) = Followed last event events × Follows last events
+
+  -- the counts are those before, signalled as the events tell, and each acknowledge resamples
+  pub record Does {A : Type 0} (b : Board) (o : Outcome A) : Type 0 where
+    pub registry : o.board.registry ≡ r
+    pub counts : o.board.counters ≡ signalled_all b.counters (counters_told o.log.events)
+    pub pic : NoMore b.pic.holds o.board.pic.holds
+    pub ioapic : NoMore b.ioapic.holds o.board.ioapic.holds
+    pub follows : Follows o.board o.log.events
+
+  -- so does a plan on every board with that registry
+  abbrev pub Acks : {A : Type 0} → Plan A → Type 0
+  Acks m = (b : Board) (ws : Wishes) → b.registry ≡ r → Does b (run m b ws)
+
+  -- ---- one after another
+
+  pub told_both : (xs ys : List Event) → counters_told (xs ++ ys) ≡ counters_told xs ++ counters_told ys
+  told_both [] ys = refl
+  told_both (x ∷ xs) ys = ap (λ l. counter_told x ++ l) (told_both xs ys) ∙ sym (append_assoc (counter_told x) (counters_told xs) (counters_told ys))
+
+  module _ (mid last : Board) (pic : NoMore mid.pic.holds last.pic.holds) (ioapic : NoMore mid.ioapic.holds last.ioapic.holds) where
+    pub resamples_later : (gsi : ℕ) (xs ys : List Event) → Resamples mid gsi xs → Resamples last gsi (xs ++ ys)
+    resamples_later gsi xs ys h = record {
+      more = h.more ++ ys;
+      events = ap (λ l. l ++ ys) h.events ∙ append_assoc (resample_events r.irqfds gsi) h.more ys;
+      pic = λ pin e. pic pin (h.pic pin e);
+      ioapic = λ pin e. ioapic pin (h.ioapic pin e);
+    }
+
+    followed_later : (x : Event) (xs ys : List Event) → Followed mid x xs → Followed last x (xs ++ ys)
+    followed_later (Acked pin (Some gsi)) xs ys h = λ on. resamples_later gsi xs ys (h on)
+    followed_later (Acked pin None) xs ys h = tt
+    followed_later (Resampled counter) xs ys h = tt
+    followed_later (Watched counter) xs ys h = tt
+    followed_later (Rang counter) xs ys h = tt
+    followed_later (Injected gsi status) xs ys h = tt
+    followed_later (Resent pin status) xs ys h = tt
+    followed_later (Ipi status) xs ys h = tt
+
+    follow_both : (xs ys : List Event) → Follows mid xs → Follows last ys → Follows last (xs ++ ys)
+    follow_both [] ys one two = two
+    follow_both (x ∷ xs) ys one two = (followed_later x xs ys one.0, follow_both xs ys one.1 two)
+
+  counts_both : (start middle end_ : List ℕ) (xs ys : List Event) → middle ≡ signalled_all start (counters_told xs) → end_ ≡ signalled_all middle (counters_told ys) → end_ ≡ signalled_all start (counters_told (xs ++ ys))
+  counts_both start middle end_ xs ys one two =
+      two ∙ ap (λ l. signalled_all l (counters_told ys)) one ∙ sym (fold-append signalled start (counters_told xs) (counters_told ys)) ∙ ap (signalled_all start) (sym (told_both xs ys))
+
+  -- what an outcome does, and then the plan of its value
+  pub then_does : {A B : Type 0} (b : Board) (o : Outcome A) (f : A → Plan B) → Does b o → Acks (f o.value) → Does b (then_run o f)
+  then_does {A} {B} b o f one next =
+      let last : Outcome B = run (f o.value) o.board o.wishes in
+      let two : Does o.board last = next o.board o.wishes one.registry in
+      record {
+        registry = two.registry;
+        counts = counts_both b.counters o.board.counters last.board.counters o.log.events last.log.events one.counts two.counts;
+        pic = no_more b.pic.holds o.board.pic.holds last.board.pic.holds one.pic two.pic;
+        ioapic = no_more b.ioapic.holds o.board.ioapic.holds last.board.ioapic.holds one.ioapic two.ioapic;
+        follows = follow_both o.board last.board two.pic two.ioapic o.log.events last.log.events one.follows two.follows;
+      }
+
+  pub does_bind : {A B : Type 0} (f : A → Plan B) (m : Plan A) (b : Board) (ws : Wishes) → Does b (run m b ws) → ((a : A) → Acks (f a)) → Does b (run (m >>= f) b ws)
+  does_bind {A} {B} f m b ws h next = subst (λ (o : Outcome B). Does b o) (sym (run-bind f m b ws)) (then_does b (run m b ws) f h (next (run m b ws).value))
+
+  pub acks_bind : {A B : Type 0} (f : A → Plan B) (m : Plan A) → Acks m → ((a : A) → Acks (f a)) → Acks (m >>= f)
+  acks_bind f m h next = λ b ws is. does_bind f m b ws (h b ws is) next
+
+  pub acks_then : {A B : Type 0} (m : Plan A) (n : Plan B) → Acks m → Acks n → Acks (m >> n)
+  acks_then m n h next = acks_bind (λ _. n) m h (λ _. next)
+
+  pub acks_if : {A : Type 0} (t : Bool) (m n : Plan A) → Acks m → Acks n → Acks (if t then m else n)
+  acks_if true m n h k = h
+  acks_if false m n h k = k
+
+  -- ---- a plan without an acknowledge
+
+  quiet_told : (events : List Event) → AreQuiet events → counters_told events ≡ []
+  quiet_told [] quiet = refl
+  quiet_told (Acked pin gsi ∷ events) quiet = cc
+  quiet_told (Resampled counter ∷ events) quiet = let never : false ≡ true = quiet.0 in cc
+  quiet_told (Watched counter ∷ events) quiet = let never : false ≡ true = quiet.0 in cc
+  quiet_told (Rang counter ∷ events) quiet = quiet_told events quiet.1
+  quiet_told (Injected gsi status ∷ events) quiet = quiet_told events quiet.1
+  quiet_told (Resent pin status ∷ events) quiet = quiet_told events quiet.1
+  quiet_told (Ipi status ∷ events) quiet = quiet_told events quiet.1
+
+  quiet_follows : (last : Board) (events : List Event) → AreQuiet events → Follows last events
+  quiet_follows last [] quiet = tt
+  quiet_follows last (Acked pin gsi ∷ events) quiet = let never : false ≡ true = quiet.0 in cc
+  quiet_follows last (Resampled counter ∷ events) quiet = (tt, quiet_follows last events quiet.1)
+  quiet_follows last (Watched counter ∷ events) quiet = (tt, quiet_follows last events quiet.1)
+  quiet_follows last (Rang counter ∷ events) quiet = (tt, quiet_follows last events quiet.1)
+  quiet_follows last (Injected gsi status ∷ events) quiet = (tt, quiet_follows last events quiet.1)
+  quiet_follows last (Resent pin status ∷ events) quiet = (tt, quiet_follows last events quiet.1)
+  quiet_follows last (Ipi status ∷ events) quiet = (tt, quiet_follows last events quiet.1)
+
+  -- what stands on a board
+  abbrev standing : Board → Care
+  standing b = record {
+    pic = λ n. set.contains b.pic.holds (hold n Resample) ≡ false;
+    ioapic = λ n. set.contains b.ioapic.holds (hold n Resample) ≡ false;
+    registry = λ v. v ≡ r;
+    counters = λ v. v ≡ b.counters;
+  }
+
+  left : {A : Type 0} (m : Plan A) → ((w : Care) → Minds w m) → (b : Board) (ws : Wishes) → b.registry ≡ r → Leaves (standing b) (run m b ws)
+  left m minds b ws is = leaves (standing b) m b ws (minds (standing b)) (record { registry = is; counters = refl; pic = λ n free. free; ioapic = λ n free. free })
+
+  pub quiet_events : {A : Type 0} (m : Plan A) → ((w : Care) → Minds w m) → (b : Board) (ws : Wishes) → b.registry ≡ r → AreQuiet (run m b ws).log.events
+  quiet_events m minds b ws is = (left m minds b ws is).quiet
+
+  pub acks_quietly : {A : Type 0} (m : Plan A) → ((w : Care) → Minds w m) → Acks m
+  acks_quietly m minds = λ b ws is.
+      let o = run m b ws in
+      let l : Leaves (standing b) o = left m minds b ws is in
+      record {
+        registry = l.stands.registry;
+        counts = l.stands.counters ∙ ap (signalled_all b.counters) (sym (quiet_told o.log.events l.quiet));
+        pic = l.stands.pic;
+        ioapic = l.stands.ioapic;
+        follows = quiet_follows o.board o.log.events l.quiet;
+      }
+
+  -- ---- signals of counters
+
+  -- these events alone, on the board as it was
+  pub record Said (events : List Event) (b : Board) (o : Outcome (Unit {0})) : Type 0 where
+    pub told : o.log.events ≡ events
+    pub board : o.board ≡ b
+
+  pub said : (events : List Event) (b : Board) (ws : Wishes) → Said events b (run (say_each events) b ws)
+  said [] b ws = record { told = refl; board = refl }
+  said (event ∷ events) b ws = let s = said events b ws in record { told = ap (λ l. event ∷ l) s.told; board = s.board }
+
+  -- these events tell these counters, and none is of an acknowledge
+  pub record Tell (events : List Event) (counters : List ℕ) : Type 0 where
+    pub told : counters_told events ≡ counters
+    pub follow : (last : Board) → Follows last events
+
+  pub resamples_tell : (counters : List ℕ) → Tell (map Resampled counters) counters
+  resamples_tell [] = record { told = refl; follow = λ _. tt }
+  resamples_tell (c ∷ counters) = let t = resamples_tell counters in record { told = ap (λ l. c ∷ l) t.told; follow = λ last. (tt, t.follow last) }
+
+  pub watches_tell : (counters : List ℕ) → Tell (map Watched counters) counters
+  watches_tell [] = record { told = refl; follow = λ _. tt }
+  watches_tell (c ∷ counters) = let t = watches_tell counters in record { told = ap (λ l. c ∷ l) t.told; follow = λ last. (tt, t.follow last) }
+
+  pub signal_acks : (counters : List ℕ) (events : List Event) → Tell events counters → Acks (signal_each counters events)
+  signal_acks counters events t = λ b ws is.
+      let after = with_part b parts.Counters (signalled_all b.counters counters) in
+      let o : Outcome (Unit {0}) = run (say_each events) after ws in
+      let s : Said events after o = said events after ws in
+      record {
+        registry = ap (λ (c : Board). c.registry) s.board ∙ is;
+        counts = ap (λ (c : Board). c.counters) s.board ∙ ap (signalled_all b.counters) (sym (ap counters_told s.told ∙ t.told));
+        pic = λ n free. ap (λ (c : Board). set.contains c.pic.holds (hold n Resample)) s.board ∙ free;
+        ioapic = λ n free. ap (λ (c : Board). set.contains c.ioapic.holds (hold n Resample)) s.board ∙ free;
+        follows = subst (λ l. Follows o.board l) (sym s.told) (t.follow o.board);
+      }
+
+  -- ---- Resample lets go
+
+  pub record LetsGo (pic ioapic : Option ℕ) (o : Outcome (Unit {0})) : Type 0 where
+    pub silent : o.log.events ≡ []
+    pub free_pic : (pin : ℕ) → pic ≡ Some pin → set.contains o.board.pic.holds (hold pin Resample) ≡ false
+    pub free_ioapic : (pin : ℕ) → ioapic ≡ Some pin → set.contains o.board.ioapic.holds (hold pin Resample) ≡ false
+
+  let_gone : (holds : Holds) (n pin : ℕ) → Some n ≡ Some pin → set.contains (set.remove holds (hold n Resample)) (hold pin Resample) ≡ false
+  let_gone holds n pin e = let same : n ≡ pin = cc in subst (λ k. set.contains (set.remove holds (hold n Resample)) (hold k Resample) ≡ false) same (gone holds (hold n Resample))
+
+  pub lets_go : (pic ioapic : Option ℕ) (b : Board) (ws : Wishes) → LetsGo pic ioapic (run (let_go_pic pic Resample >> let_go_ioapic ioapic Resample) b ws)
+  lets_go None None b ws = record { silent = refl; free_pic = λ pin e. cc; free_ioapic = λ pin e. cc }
+  lets_go None (Some m) b ws = record { silent = refl; free_pic = λ pin e. cc; free_ioapic = λ pin e. let_gone b.ioapic.holds m pin e }
+  lets_go (Some n) None b ws = record { silent = refl; free_pic = λ pin e. let_gone b.pic.holds n pin e; free_ioapic = λ pin e. cc }
+  lets_go (Some n) (Some m) b ws = record { silent = refl; free_pic = λ pin e. let_gone b.pic.holds n pin e; free_ioapic = λ pin e. let_gone b.ioapic.holds m pin e }

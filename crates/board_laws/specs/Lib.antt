@@ -1,0 +1,9 @@
+pub mod Points
+pub mod Pending
+pub mod Effect
+pub mod Resampling
+pub mod Rings
+pub mod Deassigned
+pub mod Irqfds
+pub mod Ticks
+pub mod Lawful

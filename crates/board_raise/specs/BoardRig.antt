@@ -1,0 +1,23 @@
+-- A board on one thread as a rig: its parts, the words that it published, and what it is to choose next.
+use Rattle.std.specs.Prelude.{ℕ, List, [], ◌∷◌, Some, None}
+use Rattle.std.specs.declared.option.Option.{Option}
+use Rattle.irq_bits.specs.Members.{Numbers}
+use Rattle.board_model.specs.Published.{published}
+use Rattle.board_model.specs.Run.{Wishes}
+use Rattle.board_raise.specs.declared.parts.Parts.{Parts}
+use Rattle.board_raise.specs.declared.words.Words.{Words}
+use Rattle.board_raise.specs.declared.board_rig.BoardRig.{BoardRig}
+use Rattle.board_raise.specs.InHand.{registry_of}
+
+-- the rig with other parts
+abbrev pub with_parts : BoardRig → Parts → BoardRig
+with_parts r p = record r { parts = p }
+
+-- the words that a registry publishes
+abbrev pub words_in : Words → List ℕ
+words_in w = published (registry_of w.registry) w.tick
+
+-- the next wish, and no other
+abbrev pub wishes_of : Option Numbers → Wishes
+wishes_of None = []
+wishes_of (Some wish) = wish ∷ []

@@ -1,0 +1,142 @@
+//! A rig over all parts of a board on one thread.
+ghost use Rattle.std.specs.Prelude.{◌≡◌, is_some, Some, None};
+ghost use Rattle.board_model.specs.Hand.{part_in};
+ghost use Rattle.board_raise.specs.InHand.{parts_of};
+ghost use Rattle.board_raise.specs.OnRow.{apic_in};
+
+use crate::parts::Parts;
+use crate::rig::Rig;
+use crate::row::LapicRow;
+use crate::words::Words;
+use board_model::TriggerWord;
+use irq_base::{Part, Pin, Targets};
+use irq_bits::CpuSet;
+
+/// A rig over parts of its own. It answers the published words from the registry that was published last, which no write to
+/// the lent parts changes, so it is never astray.
+#[derive(Drop)]
+pub struct BoardRig {
+    parts: Parts,
+    words: Words,
+    /// What the next sending is to choose.
+    wish: Option<CpuSet>,
+}
+
+// Whether the local APIC of the processor is in hand.
+fn has_lapic(row: &LapicRow, n: u16) -> bool
+    ensures { result ≡ is_some (apic_in row.now n) }
+{
+    (n as usize) < row.len() && row.at(n).is_some()
+}
+
+// Whether the part is in hand.
+#[tactic(auto, using(crate::proofs::InHand::held_rules))]
+fn has_part(parts: &Parts, part: Part) -> bool
+    ensures { result ≡ is_some (part_in (parts_of parts.now) part) }
+{
+    match part {
+        Part::Registry => parts.registry.is_some(),
+        Part::Counters => parts.counters.is_some(),
+        Part::Tick => parts.tick.is_some(),
+        Part::Pic => parts.pic.is_some(),
+        Part::Ioapic => parts.ioapic.is_some(),
+        Part::Lapic(n) => has_lapic(&parts.lapics, n),
+    }
+}
+
+impl BoardRig {
+    /// A rig over these parts, whose board published these words. It wishes for nothing.
+    pub fn new(parts: Parts, words: Words) -> BoardRig
+        ensures parts { result.parts ≡ parts }
+        ensures words { result.words ≡ words }
+        ensures wish { result.wish ≡ None }
+    {
+        BoardRig {
+            parts,
+            words,
+            wish: None,
+        }
+    }
+
+    /// The next sending is to choose one of these processors, where it is free to choose.
+    pub fn wish_for(&mut self, wish: CpuSet)
+        ensures parts { self.new.parts ≡ self.old.parts }
+        ensures words { self.new.words ≡ self.old.words }
+        ensures wish { self.new.wish ≡ Some wish }
+    {
+        self.wish = Some(wish);
+    }
+
+    /// The parts as they are now.
+    pub fn all(&self) -> &Parts
+        ensures { result.now ≡ self.now.parts }
+    {
+        &self.parts
+    }
+
+    /// The parts as they are now, and the words.
+    pub fn into_parts(self) -> (Parts, Words)
+        ensures parts { result.0 ≡ self.parts }
+        ensures words { result.1 ≡ self.words }
+    {
+        (self.parts, self.words)
+    }
+}
+
+impl Rig for BoardRig {
+    ghost use Rattle.std.specs.Prelude.{◌≡◌, false, [], refl};
+    ghost use Rattle.board_raise.specs.BoardRig.{with_parts, words_in, wishes_of};
+
+    ghost held = { λ r. r.parts };
+
+    ghost published = { λ r. words_in r.words };
+
+    ghost astray = { λ _. false };
+
+    ghost wishes = { λ r. wishes_of r.wish };
+
+    ghost noted = { λ _. [] };
+
+    ghost with_held = { with_parts };
+
+    ghost held_with = { λ r p. refl };
+
+    ghost published_with = { λ r p. refl };
+
+    ghost wishes_with = { λ r p. refl };
+
+    ghost astray_with = { λ r p. refl };
+
+    ghost noted_with = { λ r p. refl };
+
+    fn parts(&mut self) -> &mut Parts {
+        &mut self.parts
+    }
+
+    fn has(&self, part: Part) -> bool {
+        has_part(&self.parts, part)
+    }
+
+    fn targets(&mut self, gsi: u16) -> Targets {
+        self.words.targets(gsi)
+    }
+
+    fn marked(&mut self, gsi: u16) -> bool {
+        self.words.marked(gsi)
+    }
+
+    fn gsi_of(&mut self, pin: Pin) -> Option<u16> {
+        self.words.gsi_of(pin)
+    }
+
+    fn trigger(&mut self, trigger: u16) -> Option<TriggerWord> {
+        self.words.trigger(trigger)
+    }
+
+    fn wish(&mut self) -> CpuSet {
+        match self.wish.take() {
+            None => CpuSet::empty(),
+            Some(wish) => wish,
+        }
+    }
+}

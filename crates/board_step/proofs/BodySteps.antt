@@ -1,0 +1,91 @@
+-- One law for all bodies, from exactness on parts, the table of reach and the published words.
+use Rattle.std.proofs.Common.{◌≡◌, Bool, true, false, List, [], ◌∷◌, length, refl, sym, ap, ◌∙◌, subst, Ok, Err, arith}
+use Rattle.std.specs.Prelude.{Result}
+use Rattle.irq_base.specs.declared.call.Call.{Call}
+use Rattle.irq_base.specs.declared.call.Caller.{Caller}
+use Rattle.irq_base.specs.declared.event.Event.{Event}
+use Rattle.irq_base.specs.declared.reply.Reply.{Reply}
+use Rattle.irq_base.specs.declared.shape.Part.{Part}
+use Rattle.irq_base.specs.declared.shape.Shape.{Shape}
+use Rattle.board_model.specs.Board.{Board}
+use Rattle.board_model.specs.Hand.{Parts, part_in, all_parts}
+use Rattle.board_model.specs.Run.{Wishes, Log, Outcome, run, reaches, OnParts, gives, lacks, run_on}
+use Rattle.board_model.specs.Agreement.{Agrees, Exact, LacksReached}
+use Rattle.board_model.proofs.OnParts.{exact_on_parts}
+use Rattle.board_model.proofs.Words.{words_tell}
+use Rattle.board_raise.specs.declared.lacks.Lacks.{Lacks}
+use Rattle.board_step.specs.Calls.{plan_of}
+use Rattle.board_step.specs.Step.{would_publish, with_counts, plan_on, counted}
+use Rattle.board_step.specs.Reach.{reach}
+use Rattle.board_step.specs.Bodies.{IsOf, MayCall, IsWorth, plan_by, IsStepFrom, BodiesStep, Did, LeadsFrom, DoneLeads}
+use Rattle.board_step.proofs.CountingAnswers.{answers_once}
+use Rattle.board_step.proofs.ReachCalls.{reach_is_table}
+
+-- a list of one reply
+one_reply : (rs : List Reply) → length rs ≡ 1 → (r : Reply) × (rs ≡ r ∷ [])
+one_reply [] one = cc
+one_reply (r ∷ []) one = (r, refl)
+one_reply (r ∷ s ∷ rs) one = absurd (omega (arith, one))
+
+-- to count a call changes no part
+counted_all : (t : Bool) (b : Board) → all_parts (with_counts t b) ≡ all_parts b
+counted_all true b = refl
+counted_all false b = refl
+
+-- the plan by the words is that of the board
+same_plan : (words : List _) (q : Parts) (shape : Shape) (caller : Caller) (call : Call) (b : Board) → IsOf shape words q b → plan_by words shape caller call ≡ plan_on b caller call
+same_plan words q shape caller call b is =
+    ap (λ xs. plan_by xs shape caller call) (sym is.publishes)
+    ∙ (λ i. plan_of ((words_tell b.registry b.shape.tick is.sound).told i) (sym is.one_shape i) caller call)
+
+module _ (q : Parts) (caller : Caller) (call : Call) (ws : Wishes) (b : Board) (agrees : Agrees q b) where
+  worth : (o : OnParts (Unit {0})) → Exact o (run (plan_on b caller call) b ws) q (reaches (plan_on b caller call) b ws) → IsWorth b caller call q o
+  worth (gives _ log left later) h = record {
+    reply = one.0;
+    answered = ap (λ (l : Log). l.answers) h.log ∙ one.1;
+    leads = record {
+      next = counted b call (run (plan_on b caller call) b ws).board;
+      step = λ may. record {
+        allowed = may.allowed;
+        in_limits = may.in_limits;
+        wishes = ws;
+        replied = one.1;
+        told = sym (ap (λ (l : Log). l.events) h.log);
+        leads = refl;
+      };
+      agrees = λ p v e. ap (λ (x : Parts). part_in x p) (counted_all (would_publish b call) (run (plan_on b caller call) b ws).board) ∙ h.agrees p v e;
+      held = h.held;
+      reached = λ p within. h.all p (reach_is_table b caller call ws p ∙ within);
+    };
+  }
+    where
+      one : (r : Reply) × ((run (plan_on b caller call) b ws).log.answers ≡ r ∷ [])
+      one = one_reply (run (plan_on b caller call) b ws).log.answers (answers_once b caller call ws)
+  worth (lacks p) h = record { lacking = h.lacking; reached = sym (reach_is_table b caller call ws p) ∙ h.reached }
+
+pub bodies_step : BodiesStep
+bodies_step shape words q caller call ws b is =
+    subst (λ m. IsWorth b caller call q (run_on m q ws)) (sym (same_plan words q shape caller call b is))
+    (worth q caller call ws b is.agrees (run_on (plan_on b caller call) q ws) (exact_on_parts (plan_on b caller call) q b ws is.agrees))
+
+-- ---- bodies in code
+
+first_is : (r s : Reply) → r ∷ [] ≡ s ∷ [] → r ≡ s
+first_is r s e = cc
+
+module _ (b : Board) (caller : Caller) (call : Call) (q : Parts) (before events : List Event) (after : Parts) (later : Wishes) where
+  leads : (result : Result Reply Lacks) (o : OnParts (Unit {0})) → Did result before events after later o → IsWorth b caller call q o → LeadsFrom b caller call q result before events after
+  leads (Ok reply) (gives _ log left ws) did worth =
+      let same : worth.reply ≡ reply = first_is worth.reply reply (sym worth.answered ∙ did.answers) in
+      record {
+        told = log.events;
+        noted = did.noted;
+        leads = subst (λ (x : Reply × Parts). IsStepFrom b caller call q x.1 x.0 log.events) (λ i. (same i, sym did.parts i)) worth.leads;
+      }
+  leads (Ok reply) (lacks p) did worth = absurd did
+  leads (Err l) (gives _ log left ws) did worth = absurd did
+  leads (Err l) (lacks p) did worth = subst (λ x. LacksReached x q (reach b caller call)) (sym did) worth
+
+pub done_leads : DoneLeads
+done_leads shape words q caller call ws result before events after later did b is =
+    leads b caller call q before events after later result (run_on (plan_by words shape caller call) q ws) did (bodies_step shape words q caller call ws b is)

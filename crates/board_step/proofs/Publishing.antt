@@ -1,0 +1,197 @@
+-- A step shows in its entry whether it is a publication; a publication reaches the registry; a step keeps the frame.
+use Rattle.std.proofs.Common.{◌≡◌, ℕ, ◌+◌, Bool, true, false, not, ◌&&◌, if◌then◌else◌, cond, List, [], ◌∷◌, ◌++◌, length, is_some, Some, None, refl, sym, ap, ◌∙◌, arith, zero-add}
+use Rattle.std.specs.Prelude.{count_by}
+use Rattle.std.proofs.lemmas.List.Sums.{sum_by-cons}
+use Rattle.std.specs.declared.option.Option.{Option}
+use Rattle.irq_base.specs.Refusals.{Reason, first_of}
+use Rattle.irq_base.specs.declared.call.Call.{Call}
+use Rattle.irq_base.specs.declared.call.Call.TheVariants as calls
+use Rattle.irq_base.specs.declared.call.Caller.{Caller}
+use Rattle.irq_base.specs.declared.lists.Entry.{Entry}
+use Rattle.irq_base.specs.declared.refusal.Refusal.{Refusal}
+use Rattle.irq_base.specs.declared.reply.Reply.{Reply}
+use Rattle.irq_base.specs.declared.reply.Reply.TheVariants.{Done, Removed, Refused, Nothing}
+use Rattle.irq_base.specs.declared.shape.Part.TheVariants.{Registry}
+use Rattle.irqfd_set.specs.declared.irqfds.Irqfd.{Irqfd}
+use Rattle.irqfd_set.specs.Rows as irqfds
+use Rattle.board_model.specs.Board.{Board}
+use Rattle.board_model.specs.Routing.{Routing, routing_of_registry}
+use Rattle.board_model.specs.Plan.{Plan, reply, ◌>>◌}
+use Rattle.board_model.specs.Run.{Wishes, Outcome, run}
+use Rattle.board_model.specs.Agreement.{SameFrame}
+use Rattle.board_model.proofs.Sequence.{run-bind}
+use Rattle.board_model.proofs.Staying.{frame_stays}
+use Rattle.board_step.specs.Refusals.{range_reasons}
+use Rattle.board_step.specs.Registrations.{unless_refused, inject_count, assigned, was_last_resampler, release, deassigned}
+use Rattle.board_step.specs.Calls.{number_of, plan_in_range}
+use Rattle.board_step.specs.Step.{later_reasons, refusal_of, does_publish, publishes_unless, would_publish, plan_on, outcome_of, with_counts, counted, is_done, is_removed, did_publish, is_publication}
+use Rattle.board_step.specs.Reach.{reach, of_call}
+use Rattle.board_step.specs.History.{opening, Leads}
+use Rattle.board_step.specs.Publications.{StepsShowPublications, PublicationsReachTheRegistry, StepsKeepTheFrame, HistoriesKeepTheFrame, LegalHistoriesCount}
+use Rattle.board_step.proofs.Refusing.{refuses_first}
+use Rattle.board_step.proofs.SoundOpening.{apics_many}
+
+-- ---- reasons
+
+-- no reason of two lists holds
+none_of_both : (rs qs : List Reason) → first_of (rs ++ qs) ≡ None → (first_of rs ≡ None) × (first_of qs ≡ None)
+none_of_both [] qs is = (refl, is)
+none_of_both (r ∷ rs) qs is = by_reason (none_of_both rs qs) r.0 is
+  where
+    by_reason : (first_of (rs ++ qs) ≡ None → (first_of rs ≡ None) × (first_of qs ≡ None)) → (t : Bool) → (if t then Some r.1 else first_of (rs ++ qs)) ≡ None → ((if t then Some r.1 else first_of rs) ≡ None) × (first_of qs ≡ None)
+    by_reason again true is = cc
+    by_reason again false is = again is
+
+-- ---- answers
+
+-- the first reply, if there is one
+abbrev first_reply : List Reply → Reply
+first_reply [] = Nothing
+first_reply (r ∷ rs) = r
+
+-- the last of one reply
+last_is_one : (rs : List Reply) (q r : Reply) → rs ++ q ∷ [] ≡ r ∷ [] → r ≡ q
+last_is_one [] q r is = sym (ap first_reply is)
+last_is_one (p ∷ []) q r is = cc
+last_is_one (p ∷ o ∷ rs) q r is = cc
+
+-- where a plan that answers at its end answers once, that is the answer
+answers_last : {A : Type 0} (m : Plan A) (q r : Reply) (b : Board) (ws : Wishes) → (run (m >> reply q) b ws).log.answers ≡ r ∷ [] → r ≡ q
+answers_last m q r b ws is = last_is_one (run m b ws).log.answers q r (sym (ap (λ (o : Outcome (Unit {0})). o.log.answers) (run-bind (λ _. reply q) m b ws)) ∙ is)
+
+module _ (b : Board) (caller : Caller) (ws : Wishes) where
+  abbrev routing : Routing
+  routing = routing_of_registry b.registry b.shape.tick
+
+  -- what a plan answers
+  abbrev answers_of : Plan (Unit {0}) → List Reply
+  answers_of m = (run m b ws).log.answers
+
+  -- a plan that is not refused
+  is_free : (refused : Option Refusal) (plan : Plan (Unit {0})) → refused ≡ None → answers_of (unless_refused refused plan) ≡ answers_of plan
+  is_free refused plan is = ap (λ o. answers_of (unless_refused o plan)) is
+
+  -- whether a call in range that is not refused is a publication shows in its answer
+  shows_in_range : (call : Call) (r : Reply) → first_of (later_reasons b call) ≡ None → answers_of (plan_in_range routing b.shape (number_of caller) call) ≡ r ∷ [] → does_publish b call ≡ did_publish call r
+  shows_in_range (calls.Reroute rows) r free answers = ap (λ l. is_done (first_reply l)) answers
+  shows_in_range (calls.Assign trigger gsi resample) r free answers =
+      let plan = assigned routing b.shape b.registry b.counters trigger gsi resample in
+      sym (ap is_done (answers_last (inject_count routing b.shape gsi resample _) Done r _ ws (sym (is_free _ plan free) ∙ answers)))
+  shows_in_range (calls.Watch counter gsi) r free answers = ap (λ l. is_done (first_reply l)) (sym (is_free _ _ free) ∙ answers)
+  shows_in_range (calls.Unwatch counter gsi) r free answers = ap (λ l. is_done (first_reply l)) (sym (is_free _ _ free) ∙ answers)
+  shows_in_range (calls.Deassign trigger gsi) r free answers = by_row (irqfds.named_row b.registry.irqfds trigger gsi) answers
+    where
+      by_row : (row : Option Irqfd) → answers_of (deassigned routing b.registry trigger gsi row) ≡ r ∷ [] → is_some row ≡ is_removed r
+      by_row None answers = ap (λ l. is_removed (first_reply l)) answers
+      by_row (Some row) answers =
+          let rows = irqfds.without_row b.registry.irqfds trigger gsi in
+          sym (ap is_removed (answers_last (release routing gsi (was_last_resampler row rows)) (Removed 1) r _ ws answers))
+  shows_in_range _ r free answers = refl
+
+  -- a refusal is no publication
+  refused_publishes : (call : Call) (refusal : Refusal) → did_publish call (Refused refusal) ≡ false
+  refused_publishes (calls.Reroute rows) refusal = refl
+  refused_publishes (calls.Assign trigger gsi resample) refusal = refl
+  refused_publishes (calls.Watch counter gsi) refusal = refl
+  refused_publishes (calls.Unwatch counter gsi) refusal = refl
+  refused_publishes (calls.Deassign trigger gsi) refusal = refl
+  refused_publishes _ refusal = refl
+
+  shows : (call : Call) (r : Reply) → answers_of (plan_on b caller call) ≡ r ∷ [] → would_publish b call ≡ did_publish call r
+  shows call r answers = by_refusal (refusal_of b call) refl
+    where
+      by_refusal : (refused : Option Refusal) → refusal_of b call ≡ refused → publishes_unless refused b call ≡ did_publish call r
+      by_refusal None is =
+          let none = none_of_both (range_reasons b.shape call) (later_reasons b call) is in
+          shows_in_range call r none.1 (sym (is_free _ (plan_in_range routing b.shape (number_of caller) call) none.0) ∙ answers)
+      by_refusal (Some refusal) is =
+          let replied : r ≡ Refused refusal = ap first_reply (sym answers ∙ (refuses_first b caller call ws refusal is).answers) in
+          sym (ap (did_publish call) replied ∙ refused_publishes call refusal)
+
+pub steps_show_publications : StepsShowPublications
+steps_show_publications b e c step = shows b e.caller step.wishes e.call e.reply step.replied
+
+-- ---- the registry is reached
+
+reaches_in_range : (b : Board) (n : ℕ) (call : Call) → does_publish b call ≡ true → of_call (routing_of_registry b.registry b.shape.tick) b.shape b n call Registry ≡ true
+reaches_in_range b n (calls.Reroute rows) is = refl
+reaches_in_range b n (calls.Assign trigger gsi resample) is = refl
+reaches_in_range b n (calls.Watch counter gsi) is = refl
+reaches_in_range b n (calls.Unwatch counter gsi) is = refl
+reaches_in_range b n (calls.Deassign trigger gsi) is = refl
+reaches_in_range b n _ is = cc
+
+pub publications_reach_the_registry : PublicationsReachTheRegistry
+publications_reach_the_registry b caller call = by_refusal (refusal_of b call) refl
+  where
+    by_refusal : (refused : Option Refusal) → refusal_of b call ≡ refused → publishes_unless refused b call ≡ true → reach b caller call Registry ≡ true
+    by_refusal None is publishes =
+        ap (λ o. not (is_some o) && of_call (routing_of_registry b.registry b.shape.tick) b.shape b (number_of caller) call Registry) (none_of_both (range_reasons b.shape call) (later_reasons b call) is).0
+        ∙ reaches_in_range b (number_of caller) call publishes
+    by_refusal (Some refusal) is publishes = cc
+
+-- ---- the frame
+
+-- what is counted of a board
+record Counts (t : Bool) (o c : Board) : Type 0 where
+  shape : c.shape ≡ o.shape
+  lapics : length c.lapics ≡ length o.lapics
+  length : c.length ≡ o.length + 1
+  publications : c.publications ≡ (if t then o.publications + 1 else o.publications)
+
+counts_with : (t : Bool) (o : Board) → Counts t o (with_counts t o)
+counts_with true o = record { shape = refl; lapics = refl; length = refl; publications = refl }
+counts_with false o = record { shape = refl; lapics = refl; length = refl; publications = refl }
+
+pub steps_keep_the_frame : StepsKeepTheFrame
+steps_keep_the_frame b e c step =
+    let o = (outcome_of b e step.wishes).board in
+    let frame : SameFrame o b = frame_stays (plan_on b e.caller e.call) b step.wishes in
+    let counts : Counts (would_publish b e.call) o (counted b e.call o) = counts_with (would_publish b e.call) o in
+    record {
+      shape = ap (λ (x : Board). x.shape) (sym step.leads) ∙ counts.shape ∙ frame.shape;
+      lapics = ap (λ (x : Board). length x.lapics) (sym step.leads) ∙ counts.lapics ∙ frame.lapics;
+      length = ap (λ (x : Board). x.length) (sym step.leads) ∙ counts.length ∙ ap (λ n. n + 1) frame.length;
+      publications =
+          ap (λ (x : Board). x.publications) (sym step.leads)
+          ∙ counts.publications
+          ∙ ap (λ t. if t then o.publications + 1 else o.publications) (steps_show_publications b e c step)
+          ∙ ap (λ n. if is_publication e then n + 1 else n) frame.publications;
+    }
+
+-- ---- histories
+
+pub histories_keep_the_frame : HistoriesKeepTheFrame
+histories_keep_the_frame b [] c same = record {
+  shape = ap (λ (x : Board). x.shape) (sym same);
+  lapics = ap (λ (x : Board). length x.lapics) (sym same);
+  length = (let e = ap (λ (x : Board). x.length) same in omega arith);
+  publications = (let e = ap (λ (x : Board). x.publications) same in omega arith);
+}
+histories_keep_the_frame b (e ∷ es) c (next, step, later) =
+    let first = steps_keep_the_frame b e next step in
+    let rest = histories_keep_the_frame next es c later in
+    record {
+      shape = rest.shape ∙ first.shape;
+      lapics = rest.lapics ∙ first.lapics;
+      length = (let p = rest.length in let q = first.length in omega arith);
+      publications =
+          by_entry (is_publication e) first.publications rest.publications
+          ∙ ap (λ n. b.publications + n) (sym (sum_by-cons (λ x. cond (is_publication x) 1 0) e es));
+    }
+  where
+    by_entry : (t : Bool) → next.publications ≡ (if t then b.publications + 1 else b.publications)
+        → c.publications ≡ next.publications + count_by is_publication es
+        → c.publications ≡ b.publications + (cond t 1 0 + count_by is_publication es)
+    by_entry true one rest = omega arith
+    by_entry false one rest = omega arith
+
+pub legal_histories_count : LegalHistoriesCount
+legal_histories_count shape es last leads =
+    let after = histories_keep_the_frame (opening shape) es last leads in
+    record {
+      shape = after.shape;
+      lapics = after.lapics ∙ apics_many shape.cpus;
+      length = after.length ∙ zero-add (length es);
+      publications = after.publications ∙ zero-add (count_by is_publication es);
+    }

@@ -1,0 +1,269 @@
+-- What an allowed call reaches is there: no local APIC past those of the shape.
+use Rattle.std.proofs.Common.{◌≡◌, ℕ, zero, suc, ◌-◌, ◌<◌, ◌≤◌, Bool, true, false, true≢false, not, ◌&&◌, ◌||◌, nat_eq, nat_lt, if◌then◌else◌, List, [], ◌∷◌, ◌++◌, is_some, Some, None, refl, sym, ap, ◌∙◌, arith}
+use Rattle.std.specs.declared.option.Option.{Option}
+use Rattle.irq_bits.specs.Members.{greatest_vector}
+use Rattle.irq_base.specs.Callers.{is_of_processor, is_allowed}
+use Rattle.irq_base.specs.Refusals.{first_of}
+use Rattle.irq_base.specs.declared.call.Call.{Call}
+use Rattle.irq_base.specs.declared.call.Call.TheVariants as calls
+use Rattle.irq_base.specs.declared.call.Caller.{Caller}
+use Rattle.irq_base.specs.declared.call.Caller.TheVariants.{Device, Cpu}
+use Rattle.irq_base.specs.declared.call.Space.{Space}
+use Rattle.irq_base.specs.declared.call.Space.TheVariants as spaces
+use Rattle.irq_base.specs.declared.event.Pin.{Pin}
+use Rattle.irq_base.specs.declared.event.Pin.TheVariants as pins
+use Rattle.irq_base.specs.declared.message.Message.{Message}
+use Rattle.irq_base.specs.declared.message.MsiWord.{MsiWord}
+use Rattle.irq_base.specs.declared.message.Targets.{Targets}
+use Rattle.irq_base.specs.declared.shape.Part.TheVariants.{Pic, Ioapic, Lapic}
+use Rattle.irq_base.specs.declared.shape.Shape.{Shape}
+use Rattle.pic_8259a.specs.Pair.{is_port, has_output, cycle, write_to as pair_write_to, read_from as pair_read_from}
+use Rattle.ioapic_82093aa.specs.declared.ioapic.Raise.{Raise}
+use Rattle.ioapic_82093aa.specs.declared.ioapic.Raise.TheVariants as raises
+use Rattle.ioapic_82093aa.specs.Pins.{raise_of, entry_at, acknowledged, Written, write_to, resend_of}
+use Rattle.lapic.specs.Messages.{is_taken}
+use Rattle.lapic.specs.declared.outcome.Effect.{Effect}
+use Rattle.lapic.specs.declared.outcome.Effect.TheVariants as effects
+use Rattle.lapic.specs.declared.outcome.Shorthand.{Shorthand}
+use Rattle.lapic.specs.declared.outcome.Shorthand.TheVariants.{Field, OwnOnly, All, Others}
+use Rattle.lapic.specs.Registers.{LocalApic}
+use Rattle.lapic.specs.Offsets.{store_effect}
+use Rattle.msi_decode.specs.Messages.{message_in}
+use Rattle.tick_reinject.specs.Ticks.{tick_injects, ack_injects}
+use Rattle.ioevent_set.specs.Rows.{rung_by}
+use Rattle.board_model.specs.declared.trigger.TriggerWord.{TriggerWord}
+use Rattle.board_model.specs.Board.{Board, part_of}
+use Rattle.board_model.specs.Chips.{pair_of, IoapicPart, ioapic_of, with_ioapic}
+use Rattle.board_model.specs.Plan.{◌>>◌}
+use Rattle.board_model.specs.Routing.{Routing, routing_of_registry}
+use Rattle.board_raise.specs.Send.{numbers_below, only, reached_by_destination, reached_by}
+use Rattle.board_raise.specs.ReachLaws.{is_of_one, of_message, of_pin, of_answer, of_other, of_raise, of_fall}
+use Rattle.board_ack.specs.Acknowledge.{tell_concerned, end_level, acknowledge}
+use Rattle.board_ack.specs.ReachLaws.{board_by, of_gsi, of_marked, of_resend, of_level, of_tick, of_acknowledge, of_acknowledge_each}
+use Rattle.board_step.specs.Refusals.{is_ioapic_address, is_lapic_address, range_reasons}
+use Rattle.board_step.specs.Processors.{pins_with, pic_pin, cycle_pins, hears_pair}
+use Rattle.board_step.specs.Calls.{number_of}
+use Rattle.board_step.specs.Reach.{of_end, of_counter, of_write, does_inject, of_pair, of_written, of_effect, of_rung, of_ring, of_store, of_load, of_cycle, of_ack, of_call, reach}
+use Rattle.board_step.specs.Publications.{ReachIsThere}
+
+-- ---- tests
+
+or_false : (a b : Bool) → a ≡ false → b ≡ false → (a || b) ≡ false
+or_false true b h k = h
+or_false false b h k = k
+
+and_false : (a b : Bool) → b ≡ false → (a && b) ≡ false
+and_false true b h = h
+and_false false b h = refl
+
+if_false : (t a b : Bool) → a ≡ false → b ≡ false → (if t then a else b) ≡ false
+if_false true a b h k = h
+if_false false a b h k = k
+
+apart : (m n cpus : ℕ) → nat_lt m cpus ≡ true → cpus ≤ n → nat_eq m n ≡ false
+apart m n cpus low far = grind arith
+
+-- n is past the processors
+module _ (n cpus : ℕ) (far : cpus ≤ n) where
+  -- ---- messages
+
+  abbrev Misses : List ℕ → Type 0
+  Misses ns = is_of_one ns (Lapic n) ≡ false
+
+  misses_both : (ms ns : List ℕ) → Misses ms → Misses ns → Misses (ms ++ ns)
+  misses_both [] ns h k = k
+  misses_both (m ∷ ms) ns h k = by_first (nat_eq m n) (misses_both ms ns) h
+    where
+      by_first : (t : Bool) → (Misses ms → Misses ns → Misses (ms ++ ns)) → (t || is_of_one ms (Lapic n)) ≡ false → (t || is_of_one (ms ++ ns) (Lapic n)) ≡ false
+      by_first true again h = h
+      by_first false again h = again h k
+
+  misses_below : (k : ℕ) → k ≤ n → Misses (numbers_below k)
+  misses_below zero low = refl
+  misses_below (suc k) low = misses_both (numbers_below k) (k ∷ []) (misses_below k (omega arith)) (let e : nat_eq k n ≡ false = grind arith in or_false (nat_eq k n) false e refl)
+
+  misses_only : (m : ℕ) → Misses (only m cpus)
+  misses_only m = by_test (nat_lt m cpus) refl
+    where
+      by_test : (t : Bool) → nat_lt m cpus ≡ t → Misses (if t then m ∷ [] else [])
+      by_test true low = or_false (nat_eq m n) false (apart m n cpus low far) refl
+      by_test false low = refl
+
+  misses_destination : (message : Message) → Misses (reached_by_destination message cpus)
+  misses_destination message = by_tests message.logical (nat_eq message.dest _)
+    where
+      by_tests : (s t : Bool) → Misses (if s then numbers_below cpus else if t then numbers_below cpus else only message.dest cpus)
+      by_tests true t = misses_below cpus far
+      by_tests false true = misses_below cpus far
+      by_tests false false = misses_only message.dest
+
+  misses_reached : (message : Message) (from : Option (ℕ × Shorthand)) → Misses (reached_by message from cpus)
+  misses_reached message None = misses_destination message
+  misses_reached message (Some (sender, Field)) = misses_destination message
+  misses_reached message (Some (sender, OwnOnly)) = misses_only sender
+  misses_reached message (Some (sender, All)) = misses_below cpus far
+  misses_reached message (Some (sender, Others)) = misses_below cpus far
+
+  far_message : (message : Message) (from : Option (ℕ × Shorthand)) → of_message message from cpus (Lapic n) ≡ false
+  far_message message from = and_false (is_taken message.mode) _ (misses_reached message from)
+
+  -- ---- signals
+
+  far_pic : (pin : Option ℕ) → of_pin pin Pic (Lapic n) ≡ false
+  far_pic None = refl
+  far_pic (Some pin) = refl
+
+  far_ioapic : (pin : Option ℕ) → of_pin pin Ioapic (Lapic n) ≡ false
+  far_ioapic None = refl
+  far_ioapic (Some pin) = refl
+
+  far_answer : (answer : Raise) → of_answer answer cpus (Lapic n) ≡ false
+  far_answer (raises.Send message) = far_message message None
+  far_answer _ = refl
+
+  far_other : (b : Board) (pin : Option ℕ) (msi : Option MsiWord) → of_other b pin msi cpus (Lapic n) ≡ false
+  far_other b (Some pin) msi = far_answer (raise_of (ioapic_of b.ioapic) pin)
+  far_other b None (Some word) = far_message (message_in word.address word.payload) None
+  far_other b None None = refl
+
+  far_raise : (b : Board) (targets : Targets) → of_raise b targets cpus (Lapic n) ≡ false
+  far_raise b targets = or_false (of_pin targets.pic Pic (Lapic n)) _ (far_pic targets.pic) (far_other b targets.ioapic targets.msi)
+
+  far_fall : (targets : Targets) → of_fall targets (Lapic n) ≡ false
+  far_fall targets = or_false (of_pin targets.pic Pic (Lapic n)) _ (far_pic targets.pic) (far_ioapic targets.ioapic)
+
+module _ (routing : Routing) (shape : Shape) (n : ℕ) (far : shape.cpus ≤ n) where
+  far_gsi : (b : Board) (gsi : ℕ) → of_gsi routing shape b gsi (Lapic n) ≡ false
+  far_gsi b gsi = far_raise n shape.cpus far b (routing.targets gsi)
+
+  -- ---- acknowledges
+
+  far_marked : (gsi : Option ℕ) → of_marked routing shape gsi (Lapic n) ≡ false
+  far_marked None = refl
+  far_marked (Some gsi) = and_false (routing.marked gsi) false refl
+
+  far_resend : (message : Option Message) → of_resend routing shape message (Lapic n) ≡ false
+  far_resend None = refl
+  far_resend (Some message) = far_message n shape.cpus far message None
+
+  far_level : (b : Board) (pin : Pin) → of_level routing shape b pin (Lapic n) ≡ false
+  far_level b (pins.Pic pin) = refl
+  far_level b (pins.Ioapic pin) = and_false (entry_at (ioapic_of b.ioapic) pin).level _ (far_resend (resend_of (acknowledged (ioapic_of b.ioapic) pin) pin))
+
+  far_tick : (b : Board) (gsi : Option ℕ) → of_tick routing shape b gsi (Lapic n) ≡ false
+  far_tick b None = refl
+  far_tick b (Some gsi) = and_false (nat_eq gsi shape.tick) _ (and_false (ack_injects b.tick) _ (far_gsi b shape.tick))
+
+  far_acknowledge : (b : Board) (pin : Pin) → of_acknowledge routing shape b pin (Lapic n) ≡ false
+  far_acknowledge b pin =
+      let gsi = routing.gsi_of pin in
+      or_false (of_marked routing shape gsi (Lapic n)) _ (far_marked gsi)
+      (or_false _ _ (far_level (board_by (tell_concerned routing gsi) b) pin) (far_tick (board_by (tell_concerned routing gsi >> end_level shape.cpus pin) b) gsi))
+
+  far_each : (b : Board) (acked : List Pin) → of_acknowledge_each routing shape b acked (Lapic n) ≡ false
+  far_each b [] = refl
+  far_each b (pin ∷ acked) = or_false (of_acknowledge routing shape b pin (Lapic n)) _ (far_acknowledge b pin) (far_each (board_by (acknowledge routing shape pin) b) acked)
+
+  -- ---- calls
+
+  far_end : (b : Board) (vector : Option ℕ) → of_end routing shape b vector (Lapic n) ≡ false
+  far_end b None = refl
+  far_end b (Some vector) = far_each b (pins_with (ioapic_of b.ioapic) vector)
+
+  far_counter : (b : Board) (trigger : Option TriggerWord) → of_counter routing shape b trigger (Lapic n) ≡ false
+  far_counter b None = refl
+  far_counter b (Some trigger) = far_gsi b trigger.gsi
+
+  far_write : (b : Board) (trigger : Option TriggerWord) (count : ℕ) → of_write routing shape b trigger count (Lapic n) ≡ false
+  far_write b None count = refl
+  far_write b (Some trigger) count = and_false (not (nat_eq count 0)) _ (far_gsi b trigger.gsi)
+
+  far_pair : (b : Board) (len : ℕ) (pin : Option ℕ) → of_pair routing shape b len pin (Lapic n) ≡ false
+  far_pair b len pin = and_false (nat_eq len 1) _ (far_each b (pic_pin pin))
+
+  far_written : (part : IoapicPart) (written : Written) → of_written routing shape part written (Lapic n) ≡ false
+  far_written part written = by_pin written.pin
+    where
+      by_pin : (pin : Option ℕ) → of_written routing shape part (record written { pin = pin }) (Lapic n) ≡ false
+      by_pin None = refl
+      by_pin (Some pin) = far_resend (resend_of (ioapic_of (with_ioapic part written.after)) pin)
+
+  far_rung : (b : Board) (counter : Option ℕ) → of_rung routing shape b counter (Lapic n) ≡ false
+  far_rung b None = refl
+  far_rung b (Some counter) = far_counter b (routing.trigger counter)
+
+  far_ring : (b : Board) (space : Space) (address len value : ℕ) → of_ring routing shape b space address len value (Lapic n) ≡ false
+  far_ring b space address len value = far_rung b (rung_by b.registry.ioevents space address len value)
+
+  far_cycle : (b : Board) → of_cycle routing shape b (Lapic n) ≡ false
+  far_cycle b = far_each b (cycle_pins (cycle (pair_of b.pic)).pins)
+
+  module _ (m : ℕ) (own : nat_eq m n ≡ false) where
+    far_effect : (b : Board) (effect : Effect) → of_effect routing shape b m effect (Lapic n) ≡ false
+    far_effect b effects.Plain = refl
+    far_effect b (effects.Ended vector) = far_end b vector
+    far_effect b (effects.Send ipi) = far_message n shape.cpus far ipi.message (Some (m, ipi.to))
+
+    far_store : (b : Board) (address len value : ℕ) → of_store routing shape b m address len value (Lapic n) ≡ false
+    far_store b address len value =
+        if_false (is_ioapic_address address) _ _ (and_false (nat_eq len 4) _ (far_written b.ioapic (write_to (ioapic_of b.ioapic) (address - 0xfec00000) value)))
+        (if_false (is_lapic_address address) _ _
+        (or_false (nat_eq m n) _ own (and_false (nat_eq len 4) _ (far_effect b (store_effect (part_of b (Lapic m)) (address - 0xfee00000) value))))
+        (far_ring b spaces.Memory address len value))
+
+    far_load : (address : ℕ) → of_load routing shape m address (Lapic n) ≡ false
+    far_load address = if_false (is_ioapic_address address) _ _ refl (if_false (is_lapic_address address) _ _ own refl)
+
+    far_ack : (b : Board) (apic : LocalApic) → of_ack routing shape b m apic (Lapic n) ≡ false
+    far_ack b apic = or_false (nat_eq m n) _ own (and_false (not apic.nmi && hears_pair m apic) _ (and_false (has_output (pair_of b.pic)) _ (far_cycle b)))
+
+  far_release : (b : Board) (gsi : ℕ) (t : Bool) → (t && of_fall (routing.targets gsi) (Lapic n)) ≡ false
+  far_release b gsi t = and_false t _ (far_fall n shape.cpus far (routing.targets gsi))
+
+  far_call : (b : Board) (m : ℕ) (call : Call) → (is_of_processor call ≡ true → nat_eq m n ≡ false) → of_call routing shape b m call (Lapic n) ≡ false
+  far_call b m (calls.Line gsi line true) own = far_gsi b gsi
+  far_call b m (calls.Line gsi line false) own = far_fall n shape.cpus far (routing.targets gsi)
+  far_call b m (calls.Msi address payload) own = far_message n shape.cpus far (message_in address payload) None
+  far_call b m (calls.Write counter count) own = far_write b (routing.trigger counter) count
+  far_call b m (calls.Take counter) own = refl
+  far_call b m (calls.Assign trigger gsi resample) own = and_false (does_inject routing shape b trigger resample) _ (far_gsi b gsi)
+  far_call b m (calls.Deassign trigger gsi) own = far_release b gsi _
+  far_call b m (calls.Reroute rows) own = refl
+  far_call b m (calls.Attach space address len counter want) own = refl
+  far_call b m (calls.Detach space address len counter want) own = refl
+  far_call b m (calls.Watch counter gsi) own = refl
+  far_call b m (calls.Unwatch counter gsi) own = refl
+  far_call b m calls.Tick own = and_false (tick_injects b.tick) _ (far_gsi b shape.tick)
+  far_call b m (calls.TickMode reinject) own = refl
+  far_call b m (calls.PortOut port len value) own = if_false (is_port port) _ _ (far_pair b len (pair_write_to (pair_of b.pic) port value).pin) (far_ring b spaces.Port port len value)
+  far_call b m (calls.PortIn port len) own = if_false (is_port port) _ _ (far_pair b len (pair_read_from (pair_of b.pic) port).pin) refl
+  far_call b m (calls.Store address len value) own = far_store m (own refl) b address len value
+  far_call b m (calls.Load address len) own = far_load m (own refl) address
+  far_call b m calls.Ack own = far_ack m (own refl) b (part_of b (Lapic m))
+  far_call b m calls.Inta own = far_cycle b
+  far_call b m calls.Eoi own = or_false (nat_eq m n) _ (own refl) (far_end b (greatest_vector (part_of b (Lapic m)).isr))
+
+-- ---- callers
+
+both_true : (a b : Bool) → (a && b) ≡ true → (a ≡ true) × (b ≡ true)
+both_true true b h = (refl, h)
+both_true false b h = cc
+
+processor_there : (m : ℕ) (call : Call) (shape : Shape) → is_allowed (Cpu m) call shape ≡ true → nat_lt m shape.cpus ≡ true
+processor_there m calls.Inta shape h = (both_true (nat_lt m shape.cpus) (nat_eq m 0) h).0
+processor_there m call shape h = h
+
+own_is_there : (caller : Caller) (call : Call) (shape : Shape) (n : ℕ) → shape.cpus ≤ n → is_allowed caller call shape ≡ true → is_of_processor call ≡ true → nat_eq (number_of caller) n ≡ false
+own_is_there (Device d) call shape n far allowed is = absurd (true≢false (sym (both_true (nat_lt d 64) (not (is_of_processor call)) allowed).1 ∙ ap not is))
+own_is_there (Cpu m) call shape n far allowed is = apart m n shape.cpus (processor_there m call shape allowed) far
+
+pub reach_is_there : ReachIsThere
+reach_is_there b caller call n allowed within = by_test (nat_lt n b.shape.cpus) refl
+  where
+    beyond : b.shape.cpus ≤ n → reach b caller call (Lapic n) ≡ false
+    beyond far = and_false (not (is_some (first_of (range_reasons b.shape call)))) _
+        (far_call (routing_of_registry b.registry b.shape.tick) b.shape n far b (number_of caller) call (own_is_there caller call b.shape n far allowed))
+
+    by_test : (t : Bool) → nat_lt n b.shape.cpus ≡ t → n < b.shape.cpus
+    by_test true low = grind arith
+    by_test false high = (let far : b.shape.cpus ≤ n = grind arith in absurd (true≢false (sym within ∙ beyond far)))

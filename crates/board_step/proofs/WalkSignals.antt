@@ -1,0 +1,158 @@
+-- Sendings and signals: what holds of their parts holds of them.
+use Rattle.std.proofs.Common.{◌≡◌, ℕ, Bool, true, false, not, if◌then◌else◌, List, [], ◌∷◌, Some, None, refl}
+use Rattle.std.specs.declared.option.Option.{Option}
+use Rattle.std.specs.FinSet as set
+use Rattle.irq_bits.specs.Members.{Numbers}
+use Rattle.irq_base.specs.declared.message.Message.{Message}
+use Rattle.irq_base.specs.declared.message.MsiWord.{MsiWord}
+use Rattle.irq_base.specs.declared.message.Source.{Source}
+use Rattle.irq_base.specs.declared.message.Source.TheVariants.{Resample, Line, Pulse, Tick as TickSource}
+use Rattle.irq_base.specs.declared.message.Targets.{Targets}
+use Rattle.irq_base.specs.declared.shape.Part.TheVariants.{Pic, Ioapic, Lapic}
+use Rattle.irq_base.specs.declared.status.Cause.{Cause}
+use Rattle.irq_base.specs.declared.status.Cause.TheVariants.{Masked, NoProcessor, BadVector, Mode as BadMode}
+use Rattle.irq_base.specs.declared.reply.Reply.TheVariants.{Signal}
+use Rattle.ioapic_82093aa.specs.declared.ioapic.Raise.{Raise}
+use Rattle.ioapic_82093aa.specs.declared.ioapic.Raise.TheVariants as raises
+use Rattle.ioapic_82093aa.specs.Pins.{raise_of, pin_accepted}
+use Rattle.lapic.specs.declared.outcome.Shorthand.{Shorthand}
+use Rattle.lapic.specs.Registers.{LocalApic}
+use Rattle.lapic.specs.Messages.{is_taken, accepted}
+use Rattle.msi_decode.specs.Messages.{message_in}
+use Rattle.pic_8259a.specs.Pair.{pin_outcome}
+use Rattle.board_model.specs.Board.{Board, part_of, with_part}
+use Rattle.board_model.specs.Chips.{PicPart, IoapicPart, pair_of, ioapic_of, with_ioapic}
+use Rattle.board_model.specs.Statuses.{Sent, TargetAnswer, nobody, no_effect, stood_already, message_answer, status_of}
+use Rattle.board_model.specs.Plan.{Heading, About, Plan, done, put, choose, reply, ◌>>=◌, ◌>>◌}
+use Rattle.board_model.specs.Following.{reached}
+use Rattle.board_raise.specs.Named.{Processor, named_by, numbers_of, chosen_of}
+use Rattle.board_raise.specs.Send.{show, ignore, reached_by, see_each, parted, is_illegal, accept_each, deliver, refuse_vector, send_to, send}
+use Rattle.board_raise.specs.Laws.{processors_on}
+use Rattle.board_raise.specs.Signal.{pic_raised, pic_let_go, pic_answer, raise_pic, ioapic_raised, ioapic_let_go, is_accepted, accept_pin, answer_shown, ioapic_answered, raise_other, raise, let_go_pic, let_go_ioapic, let_go, lowered_status, lower, let_go_after, inject}
+use Rattle.board_step.proofs.Walk.{Walk, Holds, Seen, ended, bound, after, either, written, changed}
+
+module _ (w : Walk) where
+  -- ---- a sending
+
+  -- a place where a status may show, with a message sent or without
+  pub record Shows (about : About) : Type 0 where
+    pub shown : (other : Option TargetAnswer) → Holds w (show about other)
+    pub chosen : (m : Heading) (g : Numbers → Sent) (k : Sent → Plan TargetAnswer) → ((s : Sent) → Holds w (k s)) → Holds w (choose m about g k)
+
+  -- these processors were looked at
+  abbrev pub AreSeen : List Processor → Type 0
+  AreSeen [] = Unit {0}
+  AreSeen (p ∷ ps) = Seen w (Lapic p.number) p.apic × AreSeen ps
+
+  seen_on : (b : Board) → w.Fit b → (ns : List ℕ) → AreSeen (processors_on b ns)
+  seen_on b fit [] = tt
+  seen_on b fit (n ∷ ns) = ((b, fit, refl), seen_on b fit ns)
+
+  pub ignored : (about : About) → Shows about → (cause : Cause) → Holds w (ignore about cause)
+  ignored about there cause = bound w (λ _. done (no_effect cause)) (show about (Some (no_effect cause))) (there.shown (Some (no_effect cause))) (λ _. ended w (no_effect cause))
+
+  module _ (accepts : (n : ℕ) (apic : LocalApic) (message : Message) → Seen w (Lapic n) apic → (b : Board) → w.Fit b → w.May b (Lapic n) (accepted apic message)) where
+    accept_holds : (message : Message) (takers : Numbers) (ps : List Processor) → AreSeen ps → Holds w (accept_each message takers ps)
+    accept_holds message takers [] seen = ended w tt
+    accept_holds message takers (p ∷ ps) seen =
+        either w (set.contains takers p.number) (put (Lapic p.number) (accepted p.apic message) (accept_each message takers ps)) (accept_each message takers ps)
+        (λ b ws fit. w.puts (Lapic p.number) (accepted p.apic message) (accept_each message takers ps) b ws fit (accepts p.number p.apic message seen.0 b fit)
+            (accept_holds message takers ps seen.1 (with_part b (Lapic p.number) (accepted p.apic message)) ws))
+        (accept_holds message takers ps seen.1)
+
+    module _ (about : About) (there : Shows about) (message : Message) (from : Option (ℕ × Shorthand)) where
+      send_to_holds : (processors named : List Processor) → AreSeen processors → Holds w (send_to message from about processors named)
+      send_to_holds processors [] seen = ignored about there NoProcessor
+      send_to_holds processors (p ∷ ps) seen =
+          either w (is_illegal message) (refuse_vector message about processors (p ∷ ps)) (deliver message from about processors (p ∷ ps))
+          (after w (accept_each message (numbers_of (p ∷ ps)) processors) (ignore about BadVector) (accept_holds message (numbers_of (p ∷ ps)) processors seen) (ignored about there BadVector))
+          (there.chosen (record { message = message; from = from }) (λ wish. parted message (chosen_of message.mode wish (p ∷ ps))) (λ sent. accept_each message (reached sent) processors >> done (message_answer sent))
+              (λ sent. after w (accept_each message (reached sent) processors) (done (message_answer sent)) (accept_holds message (reached sent) processors seen) (ended w (message_answer sent))))
+
+      -- a sending, whose local APICs accept
+      pub send_holds : (cpus : ℕ) → Holds w (send cpus message from about)
+      send_holds cpus = elim (is_taken message.mode) as (λ t. Holds w (if not t then ignore about BadMode else (see_each (reached_by message from cpus) >>= f))) [
+        | true ↦ λ b ws fit. w.sees f (reached_by message from cpus) b ws (send_to_holds (processors_on b (reached_by message from cpus)) (named_by message from (processors_on b (reached_by message from cpus))) (seen_on b fit (reached_by message from cpus)) b ws fit)
+        | false ↦ ignored about there BadMode
+      ]
+        where
+          f : List Processor → Plan TargetAnswer
+          f processors = send_to message from about processors (named_by message from processors)
+
+  -- ---- signals
+
+  -- what signals need of sendings and of pins
+  pub record Signals (cpus : ℕ) : Type 0 where
+    pub sends : (message : Message) (from : Option (ℕ × Shorthand)) (about : About) → Shows about → Holds w (send cpus message from about)
+    pub accepts : (pin : ℕ) (b : Board) → w.Fit b → w.May b Ioapic (with_ioapic b.ioapic (pin_accepted (ioapic_of b.ioapic) pin))
+    pub pic_leaves : (pin : ℕ) (source : Source) (b : Board) → w.Fit b → w.May b Pic (pic_let_go b.pic pin source)
+    pub ioapic_leaves : (pin : ℕ) (source : Source) (b : Board) → w.Fit b → w.May b Ioapic (ioapic_let_go b.ioapic pin source)
+
+  -- a source may hold the pins of these targets
+  pub record MayRaise (targets : Targets) (source : Source) : Type 0 where
+    pub pic : (pin : ℕ) → targets.pic ≡ Some pin → (b : Board) → w.Fit b → w.May b Pic (pic_raised b.pic pin source)
+    pub ioapic : (pin : ℕ) → targets.ioapic ≡ Some pin → (b : Board) → w.Fit b → w.May b Ioapic (ioapic_raised b.ioapic pin source)
+
+  module _ (cpus : ℕ) (s : Signals cpus) where
+    pub accept_pin_holds : (pin : ℕ) (t : Bool) → Holds w (accept_pin pin t)
+    accept_pin_holds pin true = changed w Ioapic (λ part. with_ioapic part (pin_accepted (ioapic_of part) pin)) (s.accepts pin)
+    accept_pin_holds pin false = ended w tt
+
+    let_go_pic_holds : (pin : Option ℕ) (source : Source) → Holds w (let_go_pic pin source)
+    let_go_pic_holds None source = ended w tt
+    let_go_pic_holds (Some pin) source = changed w Pic (λ pic. pic_let_go pic pin source) (s.pic_leaves pin source)
+
+    let_go_ioapic_holds : (pin : Option ℕ) (source : Source) → Holds w (let_go_ioapic pin source)
+    let_go_ioapic_holds None source = ended w tt
+    let_go_ioapic_holds (Some pin) source = changed w Ioapic (λ part. ioapic_let_go part pin source) (s.ioapic_leaves pin source)
+
+    pub let_go_holds : (targets : Targets) (source : Source) → Holds w (let_go targets source)
+    let_go_holds targets source = after w (let_go_pic targets.pic source) (let_go_ioapic targets.ioapic source) (let_go_pic_holds targets.pic source) (let_go_ioapic_holds targets.ioapic source)
+
+    pub lower_holds : (targets : Targets) (source : Source) → Holds w (reply (Signal (lowered_status targets.pic targets.ioapic targets.msi))) → Holds w (lower targets source)
+    lower_holds targets source answers = after w (let_go targets source) (reply (Signal (lowered_status targets.pic targets.ioapic targets.msi))) (let_go_holds targets source) answers
+
+    let_go_after_holds : (targets : Targets) (source : Source) → Holds w (let_go_after targets source)
+    let_go_after_holds targets Resample = ended w tt
+    let_go_after_holds targets (Line n) = let_go_holds targets (Line n)
+    let_go_after_holds targets Pulse = let_go_holds targets Pulse
+    let_go_after_holds targets TickSource = let_go_holds targets TickSource
+
+    shown_holds : (about : About) → Shows about → (other : Option TargetAnswer) → Holds w (answer_shown about other)
+    shown_holds about there other = after w (show about other) (done other) (there.shown other) (ended w other)
+
+    answered_holds : (pin : ℕ) (about : About) → Shows about → (raised : Raise) → Holds w (ioapic_answered cpus pin about raised)
+    answered_holds pin about there raises.Masked = shown_holds about there (Some (no_effect Masked))
+    answered_holds pin about there raises.Stood = shown_holds about there (Some stood_already)
+    answered_holds pin about there (raises.Send message) =
+        bound w (λ answer. accept_pin pin (is_accepted message answer) >> done (Some answer)) (send cpus message None about) (s.sends message None about there)
+        (λ answer. after w (accept_pin pin (is_accepted message answer)) (done (Some answer)) (accept_pin_holds pin (is_accepted message answer)) (ended w (Some answer)))
+
+    module _ (targets : Targets) (source : Source) (may : MayRaise targets source) where
+      raise_pic_holds : (pin : Option ℕ) → targets.pic ≡ pin → Holds w (raise_pic pin source)
+      raise_pic_holds None is = ended w None
+      raise_pic_holds (Some pin) is = written w Pic (λ pic. pic_raised pic pin source) (λ pic. done (Some (pic_answer (pin_outcome (pair_of pic) pin true)))) (may.pic pin is)
+          (λ pic. ended w (Some (pic_answer (pin_outcome (pair_of pic) pin true))))
+
+      raise_other_holds : (pin : Option ℕ) (msi : Option MsiWord) (about : About) → Shows about → targets.ioapic ≡ pin → Holds w (raise_other cpus pin msi source about)
+      raise_other_holds (Some pin) msi about there is = written w Ioapic (λ part. ioapic_raised part pin source) (λ part. ioapic_answered cpus pin about (raise_of (ioapic_of part) pin)) (may.ioapic pin is)
+          (λ part. answered_holds pin about there (raise_of (ioapic_of part) pin))
+      raise_other_holds None (Some word) about there is =
+          bound w (λ answer. done (Some answer)) (send cpus (message_in word.address word.payload) None about) (s.sends (message_in word.address word.payload) None about there) (λ answer. ended w (Some answer))
+      raise_other_holds None None about there is = shown_holds about there None
+
+      module _ (about : Option TargetAnswer → About) (there : (pic : Option TargetAnswer) → Shows (about pic)) where
+        pub raise_holds : Holds w (raise cpus targets source about)
+        raise_holds =
+            bound w (λ pic. raise_other cpus targets.ioapic targets.msi source (about pic) >>= (λ other. done (status_of pic other nobody))) (raise_pic targets.pic source) (raise_pic_holds targets.pic refl)
+            (λ pic. bound w (λ other. done (status_of pic other nobody)) (raise_other cpus targets.ioapic targets.msi source (about pic)) (raise_other_holds targets.ioapic targets.msi (about pic) (there pic) refl)
+                (λ other. ended w (status_of pic other nobody)))
+
+        pub inject_holds : Holds w (inject cpus targets source about)
+        inject_holds =
+            bound w (λ status. let_go_after targets source >> done status) (raise cpus targets source about) raise_holds
+            (λ status. after w (let_go_after targets source) (done status) (let_go_after_holds targets source) (ended w status))
+
+        -- a signal, and then nothing more
+        pub inject_only : Holds w {A = Unit {0}} (inject cpus targets source about >>= (λ status. done tt))
+        inject_only = bound w (λ status. done tt) (inject cpus targets source about) inject_holds (λ _. ended w tt)

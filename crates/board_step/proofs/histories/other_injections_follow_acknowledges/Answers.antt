@@ -1,5 +1,0 @@
-use Rattle.board_step.proofs.ConservingTicks.{other_injections_follow_acknowledges}
-use Rattle.board_step.proofs.histories.other_injections_follow_acknowledges.Goals as goal
-
-pub returns : goal.returns
-returns c = other_injections_follow_acknowledges
