@@ -73,10 +73,10 @@ tick_acked_low s bound low = elim s.reinjects as (λ t. (if t then record s { pe
     less : (n : ℕ) → n ≤ bound → n - 1 ≤ bound
     less n low = omega arith
 
-tick_is_not : {A : Type 0} → TickSource ≡ Resample → A
+pub tick_is_not : {A : Type 0} → TickSource ≡ Resample → A
 tick_is_not e = cc
 
-line_is_not : {A : Type 0} (n : ℕ) → Line n ≡ Resample → A
+pub line_is_not : {A : Type 0} (n : ℕ) → Line n ≡ Resample → A
 line_is_not n e = cc
 
 pulse_is_not : {A : Type 0} → Pulse ≡ Resample → A

@@ -190,8 +190,15 @@ or_there : (a b : Bool) → b ≡ true → (a || b) ≡ true
 or_there true b e = refl
 or_there false b e = e
 
+-- a row with a resample counter is a resampler of its GSI
+pub own_row : (r : RegistryPart) (row : Irqfd) → is_some row.resample ≡ true → irqfds.has_resampler (r.irqfds ++ row ∷ []) row.gsi ≡ true
+own_row r row is = list_any-append (irqfds.resamples row.gsi) r.irqfds (row ∷ []) ∙ or_there (irqfds.has_resampler r.irqfds row.gsi) (irqfds.resamples row.gsi row || false) (own row.gsi (is_some row.resample) is)
+  where
+    own : (n : ℕ) (c : Bool) → c ≡ true → ((nat_eq n n && c) || false) ≡ true
+    own n c e = grind arith
+
 -- a GSI with a resampler has one with a row more
-more_resampler : (r : RegistryPart) (row : Irqfd) (pin : Pin) → HasResampler r pin → HasResampler (record r { irqfds = r.irqfds ++ row ∷ [] }) pin
+pub more_resampler : (r : RegistryPart) (row : Irqfd) (pin : Pin) → HasResampler r pin → HasResampler (record r { irqfds = r.irqfds ++ row ∷ [] }) pin
 more_resampler r row pin h = record { gsi = h.gsi; named = h.named; resamples = list_any-append (irqfds.resamples h.gsi) r.irqfds (row ∷ []) ∙ or_here (irqfds.has_resampler r.irqfds h.gsi) (list_any (irqfds.resamples h.gsi) (row ∷ [])) h.resamples }
   where
     or_here : (a b : Bool) → a ≡ true → (a || b) ≡ true
@@ -246,12 +253,9 @@ module _ (shape : Shape) (bound : ℕ) (b : Board) (ws : Wishes) (w : Whole shap
   inject_count_keeps row true =
       let s : RegistryPart = record b.registry { irqfds = b.registry.irqfds ++ row ∷ [] } in
       let may : MayHold s (targets_of b.registry.table row.gsi) (source_of (is_some row.resample)) = may_hold s w.fine.sound.table row.gsi (source_of (is_some row.resample))
-      (λ is. list_any-append (irqfds.resamples row.gsi) b.registry.irqfds (row ∷ []) ∙ or_there (irqfds.has_resampler b.registry.irqfds row.gsi) (irqfds.resamples row.gsi row || false) (own row.gsi (is_some row.resample) (resamples_if (is_some row.resample) is))) in
+      (λ is. own_row b.registry row (resamples_if (is_some row.resample) is)) in
       inject_only (sound s shape bound) shape.cpus (sound_signals s shape bound) (targets_of b.registry.table row.gsi) (source_of (is_some row.resample)) (may_raise s shape bound (targets_of b.registry.table row.gsi) (source_of (is_some row.resample)) may)
       (λ pic. injected row.gsi pic) (λ pic. shows (Each s shape bound) (injected row.gsi pic))
-    where
-      own : (n : ℕ) (c : Bool) → c ≡ true → ((nat_eq n n && c) || false) ≡ true
-      own n c e = grind arith
 
   pub assign_whole : (trigger gsi : ℕ) (resample : Option ℕ) → shape.counters ≤ 256 → trigger < shape.counters → gsi < 4096 → IfSome resample (λ c. c < shape.counters) → Whole shape bound (run (assign (routing_of_registry b.registry shape.tick) shape trigger gsi resample) b ws).board
   assign_whole trigger gsi resample few below low named = unless_whole shape bound b ws (first_of (assign_reasons b.registry trigger resample)) _ w (λ none.
