@@ -23,4 +23,5 @@ pub mod EffectStood
 pub mod EffectSends
 pub mod EffectCalls
 pub mod EffectHistories
+pub mod HoldsCalls
 pub mod Lawful

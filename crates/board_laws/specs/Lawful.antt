@@ -6,6 +6,7 @@ use Rattle.board_laws.specs.Points.{OfLegalHistories}
 use Rattle.board_laws.specs.Pending.{RequestsStayPending}
 use Rattle.board_laws.specs.Effect.{StatusesWithoutEffectChangeNoRequest, IgnoredMaskedIsMasked}
 use Rattle.board_laws.specs.Resampling.{EachAcknowledgeResamplesOnce}
+use Rattle.board_laws.specs.Holds.{ResampleHoldsForResamplers}
 use Rattle.board_laws.specs.Deassigned.{NoSignalOfDeassignedTrigger}
 use Rattle.board_laws.specs.Irqfds.{IrqfdsInjectOnce}
 use Rattle.board_laws.specs.Ticks.{TicksAreConserved, StateIsFreeUnlessReinjects, TicksInjectFree, InjectionsFollowAcknowledges}
@@ -16,6 +17,7 @@ pub record KeepsTheLaws (shape : Shape) (history : List Entry) : Type 0 where
   pub effectless : StatusesWithoutEffectChangeNoRequest shape history
   pub masked : IgnoredMaskedIsMasked shape history
   pub resampled : EachAcknowledgeResamplesOnce shape history
+  pub holds : ResampleHoldsForResamplers shape history
   pub deassigned : NoSignalOfDeassignedTrigger shape history
   pub irqfds : IrqfdsInjectOnce shape history
   pub conserved : TicksAreConserved shape history

@@ -2,6 +2,7 @@ pub mod Points
 pub mod Pending
 pub mod Effect
 pub mod Resampling
+pub mod Holds
 pub mod Rings
 pub mod Deassigned
 pub mod Irqfds

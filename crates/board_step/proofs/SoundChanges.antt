@@ -29,18 +29,20 @@ use Rattle.board_model.specs.Registry.{RegistryPart}
 use Rattle.board_model.specs.Routing.{routing_of_registry}
 use Rattle.board_model.specs.Published.{IsSoundIrqfd}
 use Rattle.board_model.specs.Board.{Board}
-use Rattle.board_model.specs.Plan.{injected, Plan, done, reply, ◌>>◌}
+use Rattle.board_model.specs.Plan.{injected, Plan, reply, ◌>>◌}
 use Rattle.board_model.specs.Run.{Wishes, run}
 use Rattle.board_raise.specs.Fit.{IrqfdFits, WatchFits}
-use Rattle.board_raise.specs.Signal.{inject}
 use Rattle.board_step.specs.Refusals.{is_trigger, is_counter, has_resample, is_signalled, resample_clashes, assign_reasons, attach_reasons, detach_reasons, watch_reasons, unwatch_reasons}
 use Rattle.board_step.specs.Registrations.{unless_refused, source_of, inject_count, assign, attach, detach, watch, unwatch}
 use Rattle.board_step.specs.Sound.{HasResampler}
 use Rattle.board_step.proofs.SoundCounts.{CountsFine, counts_taken}
-use Rattle.board_step.proofs.SoundPlans.{Each, Keeps, stays_fine, keeps_bind, keeps_then}
-use Rattle.board_step.proofs.SoundSends.{MayHold, inject_keeps}
+use Rattle.board_step.proofs.SoundPlans.{Each}
+use Rattle.board_step.proofs.SoundSends.{MayHold}
+use Rattle.board_step.proofs.Walk.{Holds, after}
+use Rattle.board_step.proofs.WalkSignals.{inject_only}
+use Rattle.board_step.proofs.WalkKept.{shows}
 use Rattle.board_step.proofs.SoundRegistry.{RegistryFine, may_hold}
-use Rattle.board_step.proofs.SoundCalls.{resamples_if}
+use Rattle.board_step.proofs.SoundCalls.{resamples_if, sound, may_raise, sound_signals}
 use Rattle.board_step.proofs.SoundRows.{or_neither, or_both, each_fails, pairs_push, none_fewer, length_fewer}
 
 -- a board whose registry is sound, and each part with it
@@ -49,11 +51,11 @@ pub record Whole (shape : Shape) (bound : ℕ) (b : Board) : Type 0 where
   pub each : Each b.registry shape bound b
 
 -- a plan that minds what it writes leads to such a board
-pub kept_whole : {A : Type 0} (shape : Shape) (bound : ℕ) (r : RegistryPart) (m : Plan A) (b : Board) (ws : Wishes) → RegistryFine shape r → Keeps r shape bound m → Each r shape bound b → Whole shape bound (run m b ws).board
+pub kept_whole : {A : Type 0} (shape : Shape) (bound : ℕ) (r : RegistryPart) (m : Plan A) (b : Board) (ws : Wishes) → RegistryFine shape r → Holds (sound r shape bound) m → Each r shape bound b → Whole shape bound (run m b ws).board
 kept_whole {A} shape bound r m b ws fine keeps each =
-    let after = stays_fine r shape bound (λ (a : A). Unit {0}) m b ws keeps each in
+    let left = keeps b ws each in
     let o = (run m b ws).board in
-    let both : RegistryFine shape o.registry × Each o.registry shape bound o = subst (λ (q : RegistryPart). RegistryFine shape q × Each q shape bound o) (sym (after parts.Registry)) (fine, after) in
+    let both : RegistryFine shape o.registry × Each o.registry shape bound o = subst (λ (q : RegistryPart). RegistryFine shape q × Each q shape bound o) (sym (left parts.Registry)) (fine, left) in
     record { fine = both.0; each = both.1 }
 
 -- another registry with the same pins, whose triggers were such before
@@ -188,8 +190,15 @@ or_there : (a b : Bool) → b ≡ true → (a || b) ≡ true
 or_there true b e = refl
 or_there false b e = e
 
+-- a row with a resample counter is a resampler of its GSI
+pub own_row : (r : RegistryPart) (row : Irqfd) → is_some row.resample ≡ true → irqfds.has_resampler (r.irqfds ++ row ∷ []) row.gsi ≡ true
+own_row r row is = list_any-append (irqfds.resamples row.gsi) r.irqfds (row ∷ []) ∙ or_there (irqfds.has_resampler r.irqfds row.gsi) (irqfds.resamples row.gsi row || false) (own row.gsi (is_some row.resample) is)
+  where
+    own : (n : ℕ) (c : Bool) → c ≡ true → ((nat_eq n n && c) || false) ≡ true
+    own n c e = grind arith
+
 -- a GSI with a resampler has one with a row more
-more_resampler : (r : RegistryPart) (row : Irqfd) (pin : Pin) → HasResampler r pin → HasResampler (record r { irqfds = r.irqfds ++ row ∷ [] }) pin
+pub more_resampler : (r : RegistryPart) (row : Irqfd) (pin : Pin) → HasResampler r pin → HasResampler (record r { irqfds = r.irqfds ++ row ∷ [] }) pin
 more_resampler r row pin h = record { gsi = h.gsi; named = h.named; resamples = list_any-append (irqfds.resamples h.gsi) r.irqfds (row ∷ []) ∙ or_here (irqfds.has_resampler r.irqfds h.gsi) (list_any (irqfds.resamples h.gsi) (row ∷ [])) h.resamples }
   where
     or_here : (a b : Bool) → a ≡ true → (a || b) ≡ true
@@ -239,17 +248,14 @@ module _ (shape : Shape) (bound : ℕ) (b : Board) (ws : Wishes) (w : Whole shap
         };
       }
 
-  inject_count_keeps : (row : Irqfd) (some : Bool) → Keeps (record b.registry { irqfds = b.registry.irqfds ++ row ∷ [] }) shape bound (inject_count (routing_of_registry b.registry shape.tick) shape row.gsi row.resample some)
-  inject_count_keeps row false = tt
+  inject_count_keeps : (row : Irqfd) (some : Bool) → Holds (sound (record b.registry { irqfds = b.registry.irqfds ++ row ∷ [] }) shape bound) (inject_count (routing_of_registry b.registry shape.tick) shape row.gsi row.resample some)
+  inject_count_keeps row false = λ b ws each. each
   inject_count_keeps row true =
       let s : RegistryPart = record b.registry { irqfds = b.registry.irqfds ++ row ∷ [] } in
       let may : MayHold s (targets_of b.registry.table row.gsi) (source_of (is_some row.resample)) = may_hold s w.fine.sound.table row.gsi (source_of (is_some row.resample))
-      (λ is. list_any-append (irqfds.resamples row.gsi) b.registry.irqfds (row ∷ []) ∙ or_there (irqfds.has_resampler b.registry.irqfds row.gsi) (irqfds.resamples row.gsi row || false) (own row.gsi (is_some row.resample) (resamples_if (is_some row.resample) is))) in
-      keeps_bind s shape bound (λ status. done tt) (inject shape.cpus (targets_of b.registry.table row.gsi) (source_of (is_some row.resample)) (λ pic. injected row.gsi pic))
-      (inject_keeps s shape bound shape.cpus (targets_of b.registry.table row.gsi) (source_of (is_some row.resample)) (λ pic. injected row.gsi pic) may) (λ _. tt)
-    where
-      own : (n : ℕ) (c : Bool) → c ≡ true → ((nat_eq n n && c) || false) ≡ true
-      own n c e = grind arith
+      (λ is. own_row b.registry row (resamples_if (is_some row.resample) is)) in
+      inject_only (sound s shape bound) shape.cpus (sound_signals s shape bound) (targets_of b.registry.table row.gsi) (source_of (is_some row.resample)) (may_raise s shape bound (targets_of b.registry.table row.gsi) (source_of (is_some row.resample)) may)
+      (λ pic. injected row.gsi pic) (λ pic. shows (Each s shape bound) (injected row.gsi pic))
 
   pub assign_whole : (trigger gsi : ℕ) (resample : Option ℕ) → shape.counters ≤ 256 → trigger < shape.counters → gsi < 4096 → IfSome resample (λ c. c < shape.counters) → Whole shape bound (run (assign (routing_of_registry b.registry shape.tick) shape trigger gsi resample) b ws).board
   assign_whole trigger gsi resample few below low named = unless_whole shape bound b ws (first_of (assign_reasons b.registry trigger resample)) _ w (λ none.
@@ -258,5 +264,5 @@ module _ (shape : Shape) (bound : ℕ) (b : Board) (ws : Wishes) (w : Whole shap
       let some = nat_lt 0 (slice_index b.counters trigger) in
       kept_whole shape bound s (inject_count (routing_of_registry b.registry shape.tick) shape gsi resample some >> reply Done) (record b { registry = s; counters = taken b.counters trigger }) ws
       (assigned_fine row few (record { trigger = below; gsi = low; resample = named }) none)
-      (keeps_then s shape bound (inject_count (routing_of_registry b.registry shape.tick) shape gsi resample some) (reply Done) (inject_count_keeps row some) tt)
+      (after (sound s shape bound) (inject_count (routing_of_registry b.registry shape.tick) shape gsi resample some) (reply Done) (inject_count_keeps row some) (λ b ws each. each))
       (assigned_each shape bound b.registry row b w.each))

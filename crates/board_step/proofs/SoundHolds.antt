@@ -11,7 +11,7 @@ use Rattle.irq_base.specs.declared.message.Source.TheVariants.{Resample}
 use Rattle.source_levels.specs.Holds.{Hold, Holds, hold, hold_cmp}
 use Rattle.source_levels.proofs.HoldLemmas.{hold_cmp_total, hold_cmp-IsAntisymmetric, tied_same}
 use Rattle.board_model.specs.Registry.{RegistryPart}
-use Rattle.board_step.specs.Sound.{HasResampler, HoldsStand}
+use Rattle.board_step.specs.Sound.{HasResampler, ResamplersHold, HoldsStand}
 
 inserted : (holds : Holds) (k q : Hold) → IsTrue (set.contains (set.insert holds k) q) → (q ≡ k) ⊎ IsTrue (set.contains holds q)
 inserted holds k q e =
@@ -20,6 +20,13 @@ inserted holds k q e =
       | false ↦ λ _ old. inr old
     ] refl (sym (contains-insert hold_cmp_total holds k q) ∙ e)
 
+-- a source more, which is of a resampler where it is Resample
+pub more_for : (r : RegistryPart) (holds : Holds) (chip : ℕ → Pin) (pin : ℕ) (source : Source) → ResamplersHold r holds chip → (source ≡ Resample → HasResampler r (chip pin)) → ResamplersHold r (set.insert holds (hold pin source)) chip
+more_for r holds chip pin source h resamples p held = elim (inserted holds (hold pin source) (hold p Resample) held) [
+  | inl same ↦ subst (λ n. HasResampler r (chip n)) (sym (ap (λ (x : Hold). x.pin) same)) (resamples (sym (ap (λ (x : Hold). x.source) same)))
+  | inr old ↦ h p old
+]
+
 -- a pin that there is, held by a source, is held as well
 pub hold_more : (r : RegistryPart) (holds : Holds) (count : ℕ) (chip : ℕ → Pin) (pin : ℕ) (source : Source) → HoldsStand r holds count chip → pin < count → (source ≡ Resample → HasResampler r (chip pin)) → HoldsStand r (set.insert holds (hold pin source)) count chip
 hold_more r holds count chip pin source s below resamples = record {
@@ -27,15 +34,8 @@ hold_more r holds count chip pin source s below resamples = record {
     | inl same ↦ subst (λ (x : Hold). x.pin < count) (sym same) below
     | inr old ↦ s.there h old
   ];
-  resample = λ p held. elim (inserted holds (hold pin source) (hold p Resample) held) [
-    | inl same ↦ subst (λ n. HasResampler r (chip n)) (sym (ap (λ (x : Hold). x.pin) same)) (resamples (sym (ap (λ (x : Hold). x.source) same)))
-    | inr old ↦ s.resample p old
-  ];
+  resample = more_for r holds chip pin source s.resample resamples;
 }
-
--- fewer holds
-pub hold_fewer : (r : RegistryPart) (holds fewer : Holds) (count : ℕ) (chip : ℕ → Pin) → ((h : Hold) → IsTrue (set.contains fewer h) → IsTrue (set.contains holds h)) → HoldsStand r holds count chip → HoldsStand r fewer count chip
-hold_fewer r holds fewer count chip old s = record { there = λ h held. s.there h (old h held); resample = λ p held. s.resample p (old (hold p Resample) held) }
 
 pub was_held : (holds : Holds) (k h : Hold) → IsTrue (set.contains (set.remove holds k) h) → IsTrue (set.contains holds h)
 was_held holds k h held = second_so _ _ (sym (contains-remove hold_cmp_total holds k h) ∙ held)
@@ -52,8 +52,11 @@ not_removed holds k held = absurd (differs (eq_by_cmp hold_cmp k k) (set.contain
     differs false b e f = cc
 
 -- one hold less
+pub less_for : (r : RegistryPart) (holds : Holds) (chip : ℕ → Pin) (k : Hold) → ResamplersHold r holds chip → ResamplersHold r (set.remove holds k) chip
+less_for r holds chip k h p held = h p (was_held holds k (hold p Resample) held)
+
 pub hold_less : (r : RegistryPart) (holds : Holds) (count : ℕ) (chip : ℕ → Pin) (k : Hold) → HoldsStand r holds count chip → HoldsStand r (set.remove holds k) count chip
-hold_less r holds count chip k s = hold_fewer r holds (set.remove holds k) count chip (was_held holds k) s
+hold_less r holds count chip k s = record { there = λ h held. s.there h (was_held holds k h held); resample = less_for r holds chip k s.resample }
 
 -- what is retained was there, and passes the test
 pub retained : (holds : Holds) (p : Hold → Bool) (h : Hold) → IsTrue (set.contains (set.retain holds p) h) → IsTrue (set.contains holds h) × IsTrue (p h)

@@ -1,6 +1,6 @@
 -- An irqfd that ends, and a routing table that is replaced, lead from a sound board to one.
 use Rattle.std.proofs.Common.{◌≡◌, ◌≢◌, ℕ, Bool, true, false, true≢false, not, ◌&&◌, inl, inr, List, filter, All, Some, None, refl, sym, ap, subst, ◌∙◌}
-use Rattle.std.specs.Prelude.{IsTrue, is_some}
+use Rattle.std.specs.Prelude.{IsTrue, AllPairs, is_some}
 use Rattle.std.specs.FinSet as set
 use Rattle.std.specs.List.{list_any}
 use Rattle.std.specs.Cmp.{unsigned_Decides}
@@ -32,10 +32,10 @@ use Rattle.board_raise.specs.Signal.{let_go_pic, let_go_ioapic}
 use Rattle.board_step.specs.Laws.{PayloadFits}
 use Rattle.board_step.specs.Refusals.{is_trigger, has_resample, is_signalled}
 use Rattle.board_step.specs.Registrations.{was_last_resampler, release, deassigned, deassign, is_same_gsi, keeps_gsi, kept_holds, reroute}
-use Rattle.board_step.specs.Sound.{HasResampler, HoldsStand}
+use Rattle.board_step.specs.Sound.{HasResampler, ResamplersHold, HoldsStand}
 use Rattle.board_step.proofs.SoundHolds.{was_held, not_removed, retained}
 use Rattle.board_step.proofs.SoundPlans.{Each}
-use Rattle.board_step.proofs.SoundRegistry.{RegistryFine, target_of_gsi}
+use Rattle.board_step.proofs.SoundRegistry.{RegistryFine, IsMade, target_of_gsi}
 use Rattle.board_step.proofs.SoundRows.{or_neither, or_both, any_fewer, none_fewer, named_gsi, resampler_stays, resamplers_stay}
 use Rattle.board_step.proofs.SoundChanges.{Whole, moved}
 use Rattle.board_step.proofs.SoundTable.{table_is_sound}
@@ -43,11 +43,11 @@ use Rattle.board_step.proofs.SoundTable.{table_is_sound}
 -- ---- an irqfd ends
 
 -- the holds after Resample let the pin go, if there is one
-abbrev freed : Holds → Option ℕ → Holds
+abbrev pub freed : Holds → Option ℕ → Holds
 freed holds None = holds
 freed holds (Some pin) = set.remove holds (hold pin Resample)
 
-freed_run : (pic ioapic : Option ℕ) (b : Board) (ws : Wishes) →
+pub freed_run : (pic ioapic : Option ℕ) (b : Board) (ws : Wishes) →
     (run ((let_go_pic pic Resample >> let_go_ioapic ioapic Resample) >> reply (Removed 1)) b ws).board ≡ record b { pic = record b.pic { holds = freed b.pic.holds pic }; ioapic = record b.ioapic { holds = freed b.ioapic.holds ioapic } }
 freed_run None None b ws = refl
 freed_run None (Some i) b ws = refl
@@ -65,23 +65,67 @@ is_one : (o : Option ℕ) (n : ℕ) → is_same o (Some n) ≡ true → o ≡ So
 is_one None n e = absurd (true≢false (sym e))
 is_one (Some k) n e = ap Some ((unsigned_Decides k n).0 e)
 
--- holds stand where Resample left the pin of the GSI, and other GSIs keep their resamplers
-freed_stand : (r s : RegistryPart) (holds : Holds) (count : ℕ) (chip : ℕ → Pin) (pin : Option ℕ) (gsi : ℕ) → HoldsStand r holds count chip → ((n : ℕ) → gsi_of r.table (chip n) ≡ Some gsi → pin ≡ Some n) → ((n : ℕ) (h : HasResampler r (chip n)) → h.gsi ≢ gsi → HasResampler s (chip n)) → HoldsStand s (freed holds pin) count chip
-freed_stand r s holds count chip pin gsi stands own others = record {
-  there = λ h held. stands.there h (freed_held holds pin h held);
-  resample = λ n held.
-      let h = stands.resample n (freed_held holds pin (hold n Resample) held) in
+-- Resample holds for resamplers where it left the pin of the GSI, and other GSIs keep their resamplers
+pub freed_for : (r s : RegistryPart) (holds : Holds) (chip : ℕ → Pin) (pin : Option ℕ) (gsi : ℕ) → ResamplersHold r holds chip → ((n : ℕ) → gsi_of r.table (chip n) ≡ Some gsi → pin ≡ Some n) → ((n : ℕ) (h : HasResampler r (chip n)) → h.gsi ≢ gsi → HasResampler s (chip n)) → ResamplersHold s (freed holds pin) chip
+freed_for r s holds chip pin gsi stands own others n held =
+    let h = stands n (freed_held holds pin (hold n Resample) held) in
+    elim (eqb_tells h.gsi gsi) [
+      | inl e ↦ absurd (freed_other holds pin n (own n (h.named ∙ ap Some e.1)) held)
+      | inr e ↦ others n h e.1
+    ]
+
+-- a pin that keeps its GSI keeps its resampler
+pub kept_for : (r : RegistryPart) (rows : List Row) (holds : Holds) (chip : ℕ → Pin) → ResamplersHold r holds chip → ResamplersHold (record r { table = table_of rows }) (kept_holds r.table (table_of rows) chip holds) chip
+kept_for r rows holds chip stands n held =
+    let both = retained holds (λ (x : Hold). keeps_gsi r.table (table_of rows) (chip x.pin)) (hold n Resample) held in
+    let h = stands n both.0 in
+    record { gsi = h.gsi; named = same_gsi (gsi_of r.table (chip n)) (gsi_of (table_of rows) (chip n)) h.gsi h.named both.1; resamples = h.resamples }
+  where
+    same_gsi : (before after : Option ℕ) (g : ℕ) → before ≡ Some g → is_same_gsi before after ≡ true → after ≡ Some g
+    same_gsi None after g e same = cc
+    same_gsi (Some a) None g e same = absurd (true≢false (sym same))
+    same_gsi (Some a) (Some c) g e same = ap Some (sym ((unsigned_Decides a c).0 same)) ∙ e
+
+module _ (r : RegistryPart) (trigger gsi : ℕ) where
+  -- the registry without a row
+  abbrev pub without : RegistryPart
+  without = record r { irqfds = without_row r.irqfds trigger gsi }
+
+  other_resampler : (pin : Pin) (h : HasResampler r pin) → h.gsi ≢ gsi → HasResampler without pin
+  other_resampler pin h ne = record { gsi = h.gsi; named = h.named; resamples = resampler_stays trigger gsi h.gsi r.irqfds ne h.resamples }
+
+  -- where it was not the last resampler of its GSI, that has one still
+  own_resampler : (row : Irqfd) → AllPairs (λ (a c : Irqfd). has_trigger a.trigger c ≡ false) r.irqfds → named_row r.irqfds trigger gsi ≡ Some row → was_last_resampler row (without_row r.irqfds trigger gsi) ≡ false → has_resampler r.irqfds gsi ≡ true → has_resampler (without_row r.irqfds trigger gsi) gsi ≡ true
+  own_resampler row apart is last any =
+      elim (is_some row.resample) as (λ t. is_some row.resample ≡ t → (t && not (has_resampler (without_row r.irqfds trigger gsi) row.gsi)) ≡ false → has_resampler (without_row r.irqfds trigger gsi) gsi ≡ true) [
+        | true ↦ λ _ there. ap (has_resampler (without_row r.irqfds trigger gsi)) (sym (named_gsi trigger gsi r.irqfds row is)) ∙ on (has_resampler (without_row r.irqfds trigger gsi) row.gsi) there
+        | false ↦ λ none _. resamplers_stay trigger gsi r.irqfds row apart is none any
+      ] refl last
+    where
+      on : (t : Bool) → not t ≡ false → t ≡ true
+      on true e = refl
+      on false e = absurd (true≢false e)
+
+  pub kept_resampler : (row : Irqfd) → AllPairs (λ (a c : Irqfd). has_trigger a.trigger c ≡ false) r.irqfds → named_row r.irqfds trigger gsi ≡ Some row → was_last_resampler row (without_row r.irqfds trigger gsi) ≡ false → (pin : Pin) → HasResampler r pin → HasResampler without pin
+  kept_resampler row apart is last pin h =
       elim (eqb_tells h.gsi gsi) [
-        | inl e ↦ absurd (freed_other holds pin n (own n (h.named ∙ ap Some e.1)) held)
-        | inr e ↦ others n h e.1
-      ];
-}
+        | inl e ↦ record {
+          gsi = h.gsi;
+          named = h.named;
+          resamples = subst (λ n. has_resampler (without_row r.irqfds trigger gsi) n ≡ true) (sym e.1) (own_resampler row apart is last (subst (λ n. has_resampler r.irqfds n ≡ true) e.1 h.resamples));
+        }
+        | inr e ↦ other_resampler pin h e.1
+      ]
+
+  -- after the last one went and Resample left the GSI's pins
+  pub freed_pic : IsMade r.table → (holds : Holds) → ResamplersHold r holds pins.Pic → ResamplersHold without (freed holds (targets_of r.table gsi).pic) pins.Pic
+  freed_pic made holds stands = freed_for r without holds pins.Pic (targets_of r.table gsi).pic gsi stands (λ n named. is_one (targets_of r.table gsi).pic n (target_of_gsi r.table made (pins.Pic n) gsi named)) (λ n h ne. other_resampler (pins.Pic n) h ne)
+
+  pub freed_ioapic : IsMade r.table → (holds : Holds) → ResamplersHold r holds pins.Ioapic → ResamplersHold without (freed holds (targets_of r.table gsi).ioapic) pins.Ioapic
+  freed_ioapic made holds stands = freed_for r without holds pins.Ioapic (targets_of r.table gsi).ioapic gsi stands (λ n named. is_one (targets_of r.table gsi).ioapic n (target_of_gsi r.table made (pins.Ioapic n) gsi named)) (λ n h ne. other_resampler (pins.Ioapic n) h ne)
 
 module _ (shape : Shape) (bound : ℕ) (b : Board) (ws : Wishes) (w : Whole shape bound b) where
-  abbrev without : ℕ → ℕ → RegistryPart
-  without trigger gsi = record b.registry { irqfds = without_row b.registry.irqfds trigger gsi }
-
-  without_fine : (trigger gsi : ℕ) → RegistryFine shape (without trigger gsi)
+  without_fine : (trigger gsi : ℕ) → RegistryFine shape (without b.registry trigger gsi)
   without_fine trigger gsi =
       let rows = b.registry.irqfds in
       let keep : Irqfd → Bool = λ row. not (is_named trigger gsi row) in
@@ -90,8 +134,8 @@ module _ (shape : Shape) (bound : ℕ) (b : Board) (ws : Wishes) (w : Whole shap
         named = record { irqfds = All-filter keep (IrqfdFits shape.counters) rows w.fine.named.irqfds; watches = w.fine.named.watches; ioevents = w.fine.named.ioevents };
         distinct = record {
           triggers = AllPairs-filter (λ (a c : Irqfd). has_trigger a.trigger c ≡ false) keep rows w.fine.distinct.triggers;
-          roles = All-filter keep (λ (i : Irqfd). is_signalled (without trigger gsi) i.trigger ≡ false) rows
-              (All-weaker (λ (i : Irqfd). is_signalled b.registry i.trigger ≡ false) (λ (i : Irqfd). is_signalled (without trigger gsi) i.trigger ≡ false)
+          roles = All-filter keep (λ (i : Irqfd). is_signalled (without b.registry trigger gsi) i.trigger ≡ false) rows
+              (All-weaker (λ (i : Irqfd). is_signalled b.registry i.trigger ≡ false) (λ (i : Irqfd). is_signalled (without b.registry trigger gsi) i.trigger ≡ false)
               (λ i off. let each = or_neither (list_any (has_resample i.trigger) rows) (has_counter b.registry.watches i.trigger) off in or_both (list_any (has_resample i.trigger) (filter keep rows)) (has_counter b.registry.watches i.trigger) (none_fewer (has_resample i.trigger) keep rows each.0) each.1)
               rows w.fine.distinct.roles);
           watches = w.fine.distinct.watches;
@@ -101,58 +145,36 @@ module _ (shape : Shape) (bound : ℕ) (b : Board) (ws : Wishes) (w : Whole shap
         };
       }
 
-  fewer_triggers : (trigger gsi c : ℕ) → IsTrue (is_trigger (without trigger gsi) c) → IsTrue (is_trigger b.registry c)
+  fewer_triggers : (trigger gsi c : ℕ) → IsTrue (is_trigger (without b.registry trigger gsi) c) → IsTrue (is_trigger b.registry c)
   fewer_triggers trigger gsi c on = any_fewer (has_trigger c) (λ row. not (is_named trigger gsi row)) b.registry.irqfds on
 
-  other_resampler : (trigger gsi : ℕ) (pin : Pin) (h : HasResampler b.registry pin) → h.gsi ≢ gsi → HasResampler (without trigger gsi) pin
-  other_resampler trigger gsi pin h ne = record { gsi = h.gsi; named = h.named; resamples = resampler_stays trigger gsi h.gsi b.registry.irqfds ne h.resamples }
-
-  -- where it was not the last resampler of its GSI, that has one still
-  own_resampler : (trigger gsi : ℕ) (row : Irqfd) → named_row b.registry.irqfds trigger gsi ≡ Some row → was_last_resampler row (without_row b.registry.irqfds trigger gsi) ≡ false → has_resampler b.registry.irqfds gsi ≡ true → has_resampler (without_row b.registry.irqfds trigger gsi) gsi ≡ true
-  own_resampler trigger gsi row is last any =
-      elim (is_some row.resample) as (λ t. is_some row.resample ≡ t → (t && not (has_resampler (without_row b.registry.irqfds trigger gsi) row.gsi)) ≡ false → has_resampler (without_row b.registry.irqfds trigger gsi) gsi ≡ true) [
-        | true ↦ λ _ there. ap (has_resampler (without_row b.registry.irqfds trigger gsi)) (sym (named_gsi trigger gsi b.registry.irqfds row is)) ∙ on (has_resampler (without_row b.registry.irqfds trigger gsi) row.gsi) there
-        | false ↦ λ none _. resamplers_stay trigger gsi b.registry.irqfds row w.fine.distinct.triggers is none any
-      ] refl last
-    where
-      on : (t : Bool) → not t ≡ false → t ≡ true
-      on true e = refl
-      on false e = absurd (true≢false e)
-
-  kept_resampler : (trigger gsi : ℕ) (row : Irqfd) → named_row b.registry.irqfds trigger gsi ≡ Some row → was_last_resampler row (without_row b.registry.irqfds trigger gsi) ≡ false → (pin : Pin) → HasResampler b.registry pin → HasResampler (without trigger gsi) pin
-  kept_resampler trigger gsi row is last pin h =
-      elim (eqb_tells h.gsi gsi) [
-        | inl e ↦ record {
-          gsi = h.gsi;
-          named = h.named;
-          resamples = subst (λ n. has_resampler (without_row b.registry.irqfds trigger gsi) n ≡ true) (sym e.1) (own_resampler trigger gsi row is last (subst (λ n. has_resampler b.registry.irqfds n ≡ true) e.1 h.resamples));
-        }
-        | inr e ↦ other_resampler trigger gsi pin h e.1
-      ]
-
-  freed_each : (trigger gsi : ℕ) → Each (without trigger gsi) shape bound (record b {
-    registry = without trigger gsi;
+  freed_each : (trigger gsi : ℕ) → Each (without b.registry trigger gsi) shape bound (record b {
+    registry = without b.registry trigger gsi;
     pic = record b.pic { holds = freed b.pic.holds (targets_of b.registry.table gsi).pic };
     ioapic = record b.ioapic { holds = freed b.ioapic.holds (targets_of b.registry.table gsi).ioapic };
   })
   freed_each trigger gsi parts.Registry = refl
   freed_each trigger gsi parts.Counters = let c = w.each parts.Counters in record { number = c.number; greatest = c.greatest; triggers = λ counter count on at. c.triggers counter count (fewer_triggers trigger gsi counter on) at }
   freed_each trigger gsi parts.Tick = w.each parts.Tick
-  freed_each trigger gsi parts.Pic = freed_stand b.registry (without trigger gsi) b.pic.holds 16 pins.Pic (targets_of b.registry.table gsi).pic gsi (w.each parts.Pic)
-      (λ n named. is_one (targets_of b.registry.table gsi).pic n (target_of_gsi b.registry.table w.fine.sound.table (pins.Pic n) gsi named)) (λ n h ne. other_resampler trigger gsi (pins.Pic n) h ne)
+  freed_each trigger gsi parts.Pic = record {
+    there = λ h held. (w.each parts.Pic).there h (freed_held b.pic.holds (targets_of b.registry.table gsi).pic h held);
+    resample = freed_pic b.registry trigger gsi w.fine.sound.table.made b.pic.holds (w.each parts.Pic).resample;
+  }
   freed_each trigger gsi parts.Ioapic = record {
     entries = (w.each parts.Ioapic).entries;
-    holds = freed_stand b.registry (without trigger gsi) b.ioapic.holds 24 pins.Ioapic (targets_of b.registry.table gsi).ioapic gsi (w.each parts.Ioapic).holds
-        (λ n named. is_one (targets_of b.registry.table gsi).ioapic n (target_of_gsi b.registry.table w.fine.sound.table (pins.Ioapic n) gsi named)) (λ n h ne. other_resampler trigger gsi (pins.Ioapic n) h ne);
+    holds = record {
+      there = λ h held. (w.each parts.Ioapic).holds.there h (freed_held b.ioapic.holds (targets_of b.registry.table gsi).ioapic h held);
+      resample = freed_ioapic b.registry trigger gsi w.fine.sound.table.made b.ioapic.holds (w.each parts.Ioapic).holds.resample;
+    };
   }
   freed_each trigger gsi (parts.Lapic n) = w.each (parts.Lapic n)
 
   deassigned_whole : (trigger gsi : ℕ) (row : Option Irqfd) → named_row b.registry.irqfds trigger gsi ≡ row → Whole shape bound (run (deassigned (routing_of_registry b.registry shape.tick) b.registry trigger gsi row) b ws).board
   deassigned_whole trigger gsi None is = w
   deassigned_whole trigger gsi (Some row) is =
-      elim (was_last_resampler row (without_row b.registry.irqfds trigger gsi)) as (λ t. was_last_resampler row (without_row b.registry.irqfds trigger gsi) ≡ t → Whole shape bound (run (release (routing_of_registry b.registry shape.tick) gsi t >> reply (Removed 1)) (record b { registry = without trigger gsi }) ws).board) [
-        | true ↦ λ _. subst (Whole shape bound) (sym (freed_run (targets_of b.registry.table gsi).pic (targets_of b.registry.table gsi).ioapic (record b { registry = without trigger gsi }) ws)) (record { fine = without_fine trigger gsi; each = freed_each trigger gsi })
-        | false ↦ λ last. record { fine = without_fine trigger gsi; each = moved shape bound b.registry (without trigger gsi) b w.each (fewer_triggers trigger gsi) (kept_resampler trigger gsi row is last) }
+      elim (was_last_resampler row (without_row b.registry.irqfds trigger gsi)) as (λ t. was_last_resampler row (without_row b.registry.irqfds trigger gsi) ≡ t → Whole shape bound (run (release (routing_of_registry b.registry shape.tick) gsi t >> reply (Removed 1)) (record b { registry = without b.registry trigger gsi }) ws).board) [
+        | true ↦ λ _. subst (Whole shape bound) (sym (freed_run (targets_of b.registry.table gsi).pic (targets_of b.registry.table gsi).ioapic (record b { registry = without b.registry trigger gsi }) ws)) (record { fine = without_fine trigger gsi; each = freed_each trigger gsi })
+        | false ↦ λ last. record { fine = without_fine trigger gsi; each = moved shape bound b.registry (without b.registry trigger gsi) b w.each (fewer_triggers trigger gsi) (kept_resampler b.registry trigger gsi row w.fine.distinct.triggers is last) }
       ] refl
 
   pub deassign_whole : (trigger gsi : ℕ) → Whole shape bound (run (deassign (routing_of_registry b.registry shape.tick) trigger gsi) b ws).board
@@ -166,16 +188,8 @@ module _ (shape : Shape) (bound : ℕ) (b : Board) (ws : Wishes) (w : Whole shap
   kept_stand : (rows : List Row) (holds : Holds) (count : ℕ) (chip : ℕ → Pin) → HoldsStand b.registry holds count chip → HoldsStand (routed rows) (kept_holds b.registry.table (table_of rows) chip holds) count chip
   kept_stand rows holds count chip stands = record {
     there = λ h held. stands.there h (retained holds (λ (x : Hold). keeps_gsi b.registry.table (table_of rows) (chip x.pin)) h held).0;
-    resample = λ n held.
-        let both = retained holds (λ (x : Hold). keeps_gsi b.registry.table (table_of rows) (chip x.pin)) (hold n Resample) held in
-        let h = stands.resample n both.0 in
-        record { gsi = h.gsi; named = same_gsi (gsi_of b.registry.table (chip n)) (gsi_of (table_of rows) (chip n)) h.gsi h.named both.1; resamples = h.resamples };
+    resample = kept_for b.registry rows holds chip stands.resample;
   }
-    where
-      same_gsi : (before after : Option ℕ) (g : ℕ) → before ≡ Some g → is_same_gsi before after ≡ true → after ≡ Some g
-      same_gsi None after g e same = cc
-      same_gsi (Some a) None g e same = absurd (true≢false (sym same))
-      same_gsi (Some a) (Some c) g e same = ap Some (sym ((unsigned_Decides a c).0 same)) ∙ e
 
   routed_each : (rows : List Row) → Each (routed rows) shape bound (record b {
     registry = routed rows;

@@ -18,7 +18,8 @@ use Rattle.resampler.specs.Resample.{resample_of, resampled}
 use Rattle.ack_notifiers.specs.declared.watches.Watch.{Watch}
 use Rattle.ack_notifiers.specs.Rows.{watched, has_counter}
 use Rattle.route_table.specs.Words.{is_below, is_route_of}
-use Rattle.route_table.specs.Rows.{Table, is_same, targets_of}
+use Rattle.irq_base.specs.declared.call.Row.{Row}
+use Rattle.route_table.specs.Rows.{Table, is_same, table_of, targets_of, refusal_of}
 use Rattle.route_table.specs.Pins.{has_pin, gsi_of}
 use Rattle.route_table.proofs.Sound.{sound_of}
 use Rattle.route_table.proofs.TableLaws.{is_same-some}
@@ -29,7 +30,7 @@ use Rattle.board_model.specs.Routing.{trigger_of}
 use Rattle.board_model.specs.Published.{IsSoundTable, IsSoundRegistry}
 use Rattle.board_raise.specs.Fit.{RegistrationsFit}
 use Rattle.board_step.specs.Refusals.{is_trigger, is_counter, has_resample, is_signalled}
-use Rattle.board_step.specs.Sound.{AreDistinct}
+use Rattle.board_step.specs.Sound.{HasResampler, AreDistinct}
 use Rattle.board_step.proofs.SoundCounts.{NoTriggers}
 use Rattle.board_step.proofs.SoundSends.{MayHold}
 
@@ -135,28 +136,35 @@ route_ioapic pic (Some n) None pin e route = let same : n ≡ pin = cc in subst 
 route_ioapic None (Some n) (Some m) pin e route = absurd (true≢false (sym route))
 route_ioapic (Some k) (Some n) (Some m) pin e route = absurd (true≢false (sym route))
 
+-- a table is that of rows that keep the rules
+abbrev pub IsMade : Table → Type 0
+IsMade table = (rows : List Row) × (refusal_of rows ≡ None) × (table ≡ table_of rows)
+
 -- the GSI of a target's pin is the GSI whose target it is
-pub gsi_of_target : (table : Table) → IsSoundTable table → (pin : Pin) (gsi : ℕ) → IsTrue (has_pin pin (targets_of table gsi)) → gsi_of table pin ≡ Some gsi
-gsi_of_target table s pin gsi has =
-    ap (λ (t : Table). gsi_of t pin) s.made.2
-    ∙ gsi_of_pin s.made.0 (sound_of s.made.0 s.made.1) pin gsi (subst (λ (t : Table). IsTrue (has_pin pin (targets_of t gsi))) s.made.2 has)
+pub gsi_of_target : (table : Table) → IsMade table → (pin : Pin) (gsi : ℕ) → IsTrue (has_pin pin (targets_of table gsi)) → gsi_of table pin ≡ Some gsi
+gsi_of_target table (rows, kept, made) pin gsi has =
+    ap (λ (t : Table). gsi_of t pin) made
+    ∙ gsi_of_pin rows (sound_of rows kept) pin gsi (subst (λ (t : Table). IsTrue (has_pin pin (targets_of t gsi))) made has)
 
 -- and a pin is a target of its GSI
-pub target_of_gsi : (table : Table) → IsSoundTable table → (pin : Pin) (gsi : ℕ) → gsi_of table pin ≡ Some gsi → IsTrue (has_pin pin (targets_of table gsi))
-target_of_gsi table s pin gsi named = subst (λ (t : Table). IsTrue (has_pin pin (targets_of t gsi))) (sym s.made.2) (pin_of_gsi s.made.0 pin gsi (ap (λ (t : Table). gsi_of t pin) (sym s.made.2) ∙ named))
+pub target_of_gsi : (table : Table) → IsMade table → (pin : Pin) (gsi : ℕ) → gsi_of table pin ≡ Some gsi → IsTrue (has_pin pin (targets_of table gsi))
+target_of_gsi table (rows, kept, made) pin gsi named = subst (λ (t : Table). IsTrue (has_pin pin (targets_of t gsi))) (sym made) (pin_of_gsi rows pin gsi (ap (λ (t : Table). gsi_of t pin) (sym made) ∙ named))
 
 same_some : (o : Option ℕ) (n : ℕ) → o ≡ Some n → is_same o (Some n) ≡ true
 same_some o n e = ap (λ p. is_same p (Some n)) e ∙ is_same-some n
 
+-- the pins of a GSI with a resampler are those of one
+pub pic_resamples : (r : RegistryPart) → IsMade r.table → (gsi pin : ℕ) → (targets_of r.table gsi).pic ≡ Some pin → IsTrue (has_resampler r.irqfds gsi) → HasResampler r (pins.Pic pin)
+pic_resamples r made gsi pin at on = record { gsi = gsi; named = gsi_of_target r.table made (pins.Pic pin) gsi (same_some (targets_of r.table gsi).pic pin at); resamples = on }
+
+pub ioapic_resamples : (r : RegistryPart) → IsMade r.table → (gsi pin : ℕ) → (targets_of r.table gsi).ioapic ≡ Some pin → IsTrue (has_resampler r.irqfds gsi) → HasResampler r (pins.Ioapic pin)
+ioapic_resamples r made gsi pin at on = record { gsi = gsi; named = gsi_of_target r.table made (pins.Ioapic pin) gsi (same_some (targets_of r.table gsi).ioapic pin at); resamples = on }
+
 -- a source may hold the targets of a GSI, which has a resampler where the source is one
 pub may_hold : (r : RegistryPart) → IsSoundTable r.table → (gsi : ℕ) (source : Source) → (source ≡ Resample → IsTrue (has_resampler r.irqfds gsi)) → MayHold r (targets_of r.table gsi) source
-may_hold r s gsi source resamples = record {
-  pic = λ pin at. (
-    route_pic (targets_of r.table gsi).pic (targets_of r.table gsi).ioapic (targets_of r.table gsi).msi pin at (s.routes gsi),
-    λ is. record { gsi = gsi; named = gsi_of_target r.table s (pins.Pic pin) gsi (same_some (targets_of r.table gsi).pic pin at); resamples = resamples is },
-  );
-  ioapic = λ pin at. (
-    route_ioapic (targets_of r.table gsi).pic (targets_of r.table gsi).ioapic (targets_of r.table gsi).msi pin at (s.routes gsi),
-    λ is. record { gsi = gsi; named = gsi_of_target r.table s (pins.Ioapic pin) gsi (same_some (targets_of r.table gsi).ioapic pin at); resamples = resamples is },
-  );
-}
+may_hold r s gsi source resamples =
+    let targets = targets_of r.table gsi in
+    record {
+      pic = λ pin at. (route_pic targets.pic targets.ioapic targets.msi pin at (s.routes gsi), λ is. pic_resamples r s.made gsi pin at (resamples is));
+      ioapic = λ pin at. (route_ioapic targets.pic targets.ioapic targets.msi pin at (s.routes gsi), λ is. ioapic_resamples r s.made gsi pin at (resamples is));
+    }

@@ -29,10 +29,11 @@ use Rattle.board_step.specs.Ticks.{tick_or_hold}
 use Rattle.board_step.specs.Calls.{number_of, io_row, plan_in_range}
 use Rattle.board_step.specs.Step.{would_publish, plan_on, with_counts}
 use Rattle.board_step.specs.Sound.{IsSound}
-use Rattle.board_step.proofs.SoundPlans.{Each, Keeps, each_with}
+use Rattle.board_step.proofs.SoundPlans.{Each, each_with}
+use Rattle.board_step.proofs.Walk.{Holds}
+use Rattle.board_step.proofs.WalkCalls.{is_plain}
 use Rattle.board_step.proofs.SoundRegistry.{RegistryFine}
-use Rattle.board_step.proofs.SoundAcks.{inject_tick_keeps}
-use Rattle.board_step.proofs.SoundCalls.{line_keeps, message_keeps, write_keeps, take_keeps, tick_mode_keeps, eoi_keeps, inta_keeps, next_keeps, port_out_keeps, port_in_keeps, store_keeps, load_keeps}
+use Rattle.board_step.proofs.SoundCalls.{sound, sound_plain, sound_tick}
 use Rattle.board_step.proofs.SoundChanges.{Whole, kept_whole, unless_whole, less_of, attach_whole, detach_whole, watch_whole, unwatch_whole, assign_whole}
 use Rattle.board_step.proofs.SoundLeaving.{deassign_whole, reroute_whole}
 use Rattle.route_table.proofs.Sound.{no_reason}
@@ -75,18 +76,18 @@ module _ (b : Board) (ws : Wishes) (fine : RegistryFine b.shape b.registry) (eac
   whole : Whole b.shape bound b
   whole = record { fine = fine; each = more }
 
-  keeps : (n : ℕ) (call : Call) → Keeps b.registry b.shape bound (plan_in_range routing b.shape n call) → Whole b.shape bound (run (plan_in_range routing b.shape n call) b ws).board
-  keeps n call k = kept_whole b.shape bound b.registry (plan_in_range routing b.shape n call) b ws fine k more
+  plain : (n : ℕ) (call : Call) → is_plain call ≡ true → Whole b.shape bound (run (plan_in_range routing b.shape n call) b ws).board
+  plain n call is = kept_whole b.shape bound b.registry (plan_in_range routing b.shape n call) b ws fine (sound_plain b.registry b.shape bound fine n call is) more
 
-  tick_or_hold_keeps : (after : TickState) (t : Bool) → Keeps b.registry b.shape bound (tick_or_hold routing b.shape after t)
-  tick_or_hold_keeps after true = inject_tick_keeps b.shape b.registry bound fine (λ pic. the_reply pic)
-  tick_or_hold_keeps after false = tt
+  tick_or_hold_keeps : (after : TickState) (t : Bool) → Holds (sound b.registry b.shape bound) (tick_or_hold routing b.shape after t)
+  tick_or_hold_keeps after true = sound_tick b.registry b.shape bound fine (λ pic. the_reply pic)
+  tick_or_hold_keeps after false = λ b ws each. each
 
   in_range : (n : ℕ) (call : Call) → IsTyped call → first_of (range_reasons b.shape call) ≡ None → Whole b.shape bound (run (plan_in_range routing b.shape n call) b ws).board
-  in_range n (Line gsi line high) typed none = keeps n (Line gsi line high) (line_keeps b.shape b.registry bound fine gsi line high)
-  in_range n (Msi address payload) typed none = keeps n (Msi address payload) (message_keeps b.shape b.registry bound fine address payload)
-  in_range n (Write counter count) typed none = keeps n (Write counter count) (write_keeps b.shape b.registry bound fine (routing.trigger counter) counter count refl)
-  in_range n (Take counter) typed none = keeps n (Take counter) (take_keeps b.shape b.registry bound fine counter)
+  in_range n (Line gsi line high) typed none = plain n (Line gsi line high) refl
+  in_range n (Msi address payload) typed none = plain n (Msi address payload) refl
+  in_range n (Write counter count) typed none = plain n (Write counter count) refl
+  in_range n (Take counter) typed none = plain n (Take counter) refl
   in_range n (Assign trigger gsi resample) typed none =
       let one = no_reason (nat_le b.shape.counters trigger) NoCounter (bad_gsi gsi ∷ bad_resample b.shape resample) none in
       let two = no_reason (nat_le 4096 gsi) NoGsi (bad_resample b.shape resample) one.1 in
@@ -105,14 +106,14 @@ module _ (b : Board) (ws : Wishes) (fine : RegistryFine b.shape b.registry) (eac
   in_range n Tick typed none =
       kept_whole b.shape bound b.registry (tick_or_hold routing b.shape (ticked b.tick) (tick_injects b.tick)) (record b { tick = ticked b.tick }) ws fine
       (tick_or_hold_keeps (ticked b.tick) (tick_injects b.tick)) (each_with b.registry b.shape bound b parts.Tick (ticked b.tick) more (ticked_low b.tick b.length (each parts.Tick)))
-  in_range n (TickMode reinject) typed none = keeps n (TickMode reinject) (tick_mode_keeps b.shape b.registry bound fine reinject)
-  in_range n (PortOut port len value) typed none = keeps n (PortOut port len value) (port_out_keeps b.shape b.registry bound fine port len value)
-  in_range n (PortIn port len) typed none = keeps n (PortIn port len) (port_in_keeps b.shape b.registry bound fine port len)
-  in_range n (Store address len value) typed none = keeps n (Store address len value) (store_keeps b.shape b.registry bound fine n address len value)
-  in_range n (Load address len) typed none = keeps n (Load address len) (load_keeps b.shape b.registry bound fine n address len)
-  in_range n Ack typed none = keeps n Ack (next_keeps b.shape b.registry bound fine n)
-  in_range n Inta typed none = keeps n Inta (inta_keeps b.shape b.registry bound fine)
-  in_range n Eoi typed none = keeps n Eoi (eoi_keeps b.shape b.registry bound fine n)
+  in_range n (TickMode reinject) typed none = plain n (TickMode reinject) refl
+  in_range n (PortOut port len value) typed none = plain n (PortOut port len value) refl
+  in_range n (PortIn port len) typed none = plain n (PortIn port len) refl
+  in_range n (Store address len value) typed none = plain n (Store address len value) refl
+  in_range n (Load address len) typed none = plain n (Load address len) refl
+  in_range n Ack typed none = plain n Ack refl
+  in_range n Inta typed none = plain n Inta refl
+  in_range n Eoi typed none = plain n Eoi refl
 
   call_whole : (caller : Caller) (call : Call) → IsTyped call → Whole b.shape bound (run (plan_on b caller call) b ws).board
   call_whole caller call typed = unless_whole b.shape bound b ws (first_of (range_reasons b.shape call)) (plan_in_range routing b.shape (number_of caller) call) whole (in_range (number_of caller) call typed)

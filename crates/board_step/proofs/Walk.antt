@@ -1,9 +1,6 @@
 -- Properties of plans that hold of a plan where they hold of its parts.
-use Rattle.std.proofs.Common.{◌≡◌, ℕ, Bool, true, false, if◌then◌else◌, List, [], ◌∷◌, refl, sym, ap, subst, ◌∙◌}
-use Rattle.irq_base.specs.declared.event.Event.{Event}
+use Rattle.std.proofs.Common.{◌≡◌, ℕ, Bool, true, false, if◌then◌else◌, List, refl, sym, subst}
 use Rattle.irq_base.specs.declared.shape.Part.{Part}
-use Rattle.irq_base.specs.declared.shape.Part.TheVariants.{Lapic}
-use Rattle.lapic.specs.Registers.{LocalApic}
 use Rattle.board_model.specs.Board.{ValueOf, Board, part_of, with_part}
 use Rattle.board_model.specs.Plan.{Plan, done, look, put, change, ◌>>=◌, ◌>>◌}
 use Rattle.board_model.specs.Run.{Wishes, Outcome, run, then_run}
@@ -75,7 +72,7 @@ pub record Relation : Type 1 where
   pub joins : {A B : Type 0} (f : A → Plan B) (b : Board) (o : Outcome A) → Fit b → Good b o → (Fit o.board → Good o.board (run (f o.value) o.board o.wishes)) → Good b (then_run o f)
 
 -- makes such a property
-pub of_relation : Relation → Walk
+abbrev pub of_relation : Relation → Walk
 of_relation r = record {
   At = λ m b ws. r.Good b (run m b ws);
   Fit = r.Fit;
@@ -90,7 +87,7 @@ of_relation r = record {
 -- ---- properties of boards
 
 -- what holds of a board before a plan holds after it, where it holds after each write
-pub kept_by : (Board → Type 0) → Walk
+abbrev pub kept_by : (Board → Type 0) → Walk
 kept_by P = of_relation (record {
   Good = λ b o. P o.board;
   Fit = P;

@@ -1,7 +1,6 @@
 -- Acknowledges: what holds of their parts holds of them.
-use Rattle.std.proofs.Common.{◌≡◌, ℕ, Bool, true, false, not, nat_eq, if◌then◌else◌, List, [], ◌∷◌, Some, None, refl}
+use Rattle.std.proofs.Common.{ℕ, Bool, true, false, not, nat_eq, if◌then◌else◌, List, [], ◌∷◌, Some, None}
 use Rattle.std.specs.declared.option.Option.{Option}
-use Rattle.irq_base.specs.declared.event.Event.{Event}
 use Rattle.irq_base.specs.declared.event.Event.TheVariants.{Acked}
 use Rattle.irq_base.specs.declared.event.Pin.{Pin}
 use Rattle.irq_base.specs.declared.event.Pin.TheVariants as pins
@@ -14,12 +13,12 @@ use Rattle.ioapic_82093aa.specs.Pins.{entry_at, acknowledged, resend_of}
 use Rattle.irqfd_set.specs.Rows.{has_resampler}
 use Rattle.resampler.specs.Resample.{resampled, resample_events}
 use Rattle.tick_reinject.specs.Ticks.{ack_injects, tick_acked, tick_injected}
-use Rattle.board_model.specs.Board.{Board, part_of, with_part}
-use Rattle.board_model.specs.Chips.{IoapicPart, ioapic_of, with_ioapic}
+use Rattle.board_model.specs.Board.{Board, with_part}
+use Rattle.board_model.specs.Chips.{ioapic_of, with_ioapic}
 use Rattle.board_model.specs.Registry.{RegistryPart}
 use Rattle.board_model.specs.Routing.{Routing}
 use Rattle.board_model.specs.Statuses.{TargetAnswer}
-use Rattle.board_model.specs.Plan.{About, injected, resent, Plan, done, put, say, change, ◌>>=◌, ◌>>◌}
+use Rattle.board_model.specs.Plan.{About, injected, resent, done, say, change, ◌>>◌}
 use Rattle.board_raise.specs.Send.{send}
 use Rattle.board_raise.specs.Signal.{is_accepted, accept_pin, let_go, inject}
 use Rattle.board_ack.specs.Ticks.{inject_tick, inject_next, acknowledge_tick}
@@ -63,7 +62,7 @@ module _ (w : Walk) where
     told_holds : (gsi : ℕ) → Holds w (resample_and_notify routing gsi)
     told_holds gsi =
         looked w parts.Registry _ (λ registry seen. looked w parts.Counters _ (λ counts _. looked w parts.Tick _ (λ tick _. looked w parts.Pic _ (λ pic _. looked w parts.Ioapic _ (λ ioapic _.
-            after w (resample (routing.targets gsi) gsi registry) (notify gsi registry) (resample_holds gsi registry seen) (a.notifies registry gsi seen))))))
+        after w (resample (routing.targets gsi) gsi registry) (notify gsi registry) (resample_holds gsi registry seen) (a.notifies registry gsi seen))))))
 
     tell_holds : (gsi : Option ℕ) → Holds w (tell_concerned routing gsi)
     tell_holds None = ended w tt

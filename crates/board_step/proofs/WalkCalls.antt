@@ -1,15 +1,16 @@
 -- Calls: what holds of their parts holds of them.
-use Rattle.std.proofs.Common.{◌≡◌, ℕ, ◌-◌, Bool, true, false, nat_eq, nat_lt, if◌then◌else◌, List, ◌++◌, ◌∷◌, [], slice_index, Some, None, refl, sym, ap}
+use Rattle.std.proofs.Common.{◌≡◌, ℕ, ◌-◌, Bool, true, false, nat_eq, nat_lt, if◌then◌else◌, List, ◌++◌, ◌∷◌, [], slice_index, Some, None, refl}
 use Rattle.std.specs.declared.option.Option.{Option}
 use Rattle.irq_bits.specs.Members.{greatest_vector}
 use Rattle.irq_base.specs.Refusals.{Reason, first_of}
+use Rattle.irq_base.specs.declared.call.Call.{Call}
+use Rattle.irq_base.specs.declared.call.Call.TheVariants as calls
 use Rattle.irq_base.specs.declared.call.Space.{Space}
 use Rattle.irq_base.specs.declared.call.Space.TheVariants as spaces
 use Rattle.irq_base.specs.declared.event.Event.TheVariants.{Rang}
 use Rattle.irq_base.specs.declared.event.Pin.{Pin}
 use Rattle.irq_base.specs.declared.event.Pin.TheVariants as pins
 use Rattle.irq_base.specs.declared.call.Row.{Row}
-use Rattle.irq_base.specs.declared.message.Source.{Source}
 use Rattle.irq_base.specs.declared.message.Source.TheVariants.{Line, Resample}
 use Rattle.irq_base.specs.declared.refusal.Refusal.{Refusal}
 use Rattle.irq_base.specs.declared.reply.Reply.{Reply}
@@ -20,11 +21,10 @@ use Rattle.irqfd_set.specs.declared.irqfds.Irqfd.{Irqfd}
 use Rattle.irqfd_set.specs.Rows as irqfds
 use Rattle.ioevent_set.specs.declared.row.IoRow.{IoRow}
 use Rattle.pic_8259a.specs.declared.pair.Pair.{Pair}
-use Rattle.pic_8259a.specs.Pair.{is_port, write_to as pair_write_to, read_from as pair_read_from, has_output, Cycle, cycle}
+use Rattle.pic_8259a.specs.Pair.{is_port, write_to as pair_write_to, read_from as pair_read_from, has_output, cycle}
 use Rattle.ioapic_82093aa.specs.Pins.{write_to, read_from, resend_of}
 use Rattle.lapic.specs.declared.outcome.Effect.{Effect as LapicEffect}
 use Rattle.lapic.specs.declared.outcome.Effect.TheVariants as effects
-use Rattle.lapic.specs.Registers.{LocalApic}
 use Rattle.lapic.specs.Offsets.{store_to, store_effect, load_of}
 use Rattle.lapic.specs.Priority.{giveable_of, given, without_service}
 use Rattle.msi_decode.specs.Messages.{message_in}
@@ -34,7 +34,7 @@ use Rattle.ioevent_set.specs.Rows as ioevents
 use Rattle.ioevent_set.specs.Rows.{rung_by}
 use Rattle.ack_notifiers.specs.Rows as watches
 use Rattle.tick_reinject.specs.declared.state.TickState.{TickState}
-use Rattle.tick_reinject.specs.Ticks.{in_mode, ticked, tick_injects}
+use Rattle.tick_reinject.specs.Ticks.{in_mode}
 use Rattle.route_table.specs.Rows.{table_of}
 use Rattle.board_model.specs.declared.trigger.TriggerWord.{TriggerWord}
 use Rattle.board_model.specs.Board.{Board, part_of, with_part}
@@ -42,19 +42,20 @@ use Rattle.board_model.specs.Registry.{RegistryPart}
 use Rattle.board_model.specs.Routing.{Routing}
 use Rattle.board_model.specs.Chips.{PicPart, IoapicPart, pair_of, ioapic_of, with_pair, with_ioapic}
 use Rattle.board_model.specs.Statuses.{TargetAnswer}
-use Rattle.board_model.specs.Plan.{About, injected, resent, ipi, the_reply, Plan, done, put, say, change, reply, ◌>>=◌, ◌>>◌}
+use Rattle.board_model.specs.Plan.{injected, resent, ipi, the_reply, Plan, done, put, say, change, reply, ◌>>◌}
 use Rattle.board_model.specs.Run.{Wishes}
 use Rattle.source_levels.specs.Holds.{Holds as PinHolds}
 use Rattle.board_raise.specs.Send.{send}
-use Rattle.board_raise.specs.Signal.{raise, lowered_status, inject}
+use Rattle.board_raise.specs.Signal.{raise, lowered_status}
 use Rattle.board_ack.specs.Ticks.{inject_tick}
 use Rattle.board_ack.specs.Acknowledge.{resend, acknowledge_each}
 use Rattle.board_step.specs.Refusals.{write_reasons, assign_reasons, attach_reasons, detach_reasons, watch_reasons, unwatch_reasons, is_ioapic_address, is_lapic_address}
-use Rattle.board_step.specs.Registrations.{unless_refused, line_set, message_sent, source_of, trigger_written, count_written, write, read_reply, take, inject_count, assigned, assign, was_last_resampler, release, deassigned, deassign, kept_holds, reroute, attach, detach, watch, unwatch}
-use Rattle.board_step.specs.Ticks.{tick_or_hold, tick, tick_mode}
+use Rattle.board_step.specs.Registrations.{unless_refused, line_set, message_sent, source_of, trigger_written, write, read_reply, take, inject_count, assign, was_last_resampler, release, deassigned, deassign, kept_holds, reroute, attach, detach, watch, unwatch}
+use Rattle.board_step.specs.Ticks.{tick_or_hold, tick_mode}
 use Rattle.board_step.specs.Processors.{pins_with, end_vector, ended_reply, end_of_interrupt, pic_pin, cycle_pins, cycle_made, inta, given_reply, give, hears_pair, give_of_pair, take_nmi, next_interrupt}
 use Rattle.board_step.specs.Accesses.{pair_written, pair_write, pair_gave, pair_read, resend_written, ioapic_written, ioapic_store, ioapic_load, store_effects, lapic_stored, lapic_store, lapic_load, ring_counter, rung, ring, port_out, port_in, store, load}
-use Rattle.board_step.proofs.Walk.{Walk, Holds, Seen, ended, bound, after, either, either_at, looked, written, changed}
+use Rattle.board_step.specs.Calls.{plan_in_range}
+use Rattle.board_step.proofs.Walk.{Walk, Holds, ended, bound, after, either, either_at, looked, written, changed}
 use Rattle.board_step.proofs.WalkSignals.{Shows, Signals, MayRaise, let_go_holds, lower_holds, raise_holds, inject_only}
 use Rattle.board_step.proofs.WalkAcks.{resend_holds}
 
@@ -62,6 +63,22 @@ use Rattle.board_step.proofs.WalkAcks.{resend_holds}
 abbrev pub is_signal : Reply → Bool
 is_signal (Signal status) = true
 is_signal _ = false
+
+-- the calls that leave the registry, but for a tick that falls
+abbrev pub is_plain : Call → Bool
+is_plain (calls.Line gsi line high) = true
+is_plain (calls.Msi address payload) = true
+is_plain (calls.Write counter count) = true
+is_plain (calls.Take counter) = true
+is_plain (calls.TickMode reinject) = true
+is_plain (calls.PortOut port len value) = true
+is_plain (calls.PortIn port len) = true
+is_plain (calls.Store address len value) = true
+is_plain (calls.Load address len) = true
+is_plain calls.Ack = true
+is_plain calls.Inta = true
+is_plain calls.Eoi = true
+is_plain _ = false
 
 module _ (w : Walk) (routing : Routing) (shape : Shape) where
   -- ---- processors and accesses
@@ -136,8 +153,8 @@ module _ (w : Walk) (routing : Routing) (shape : Shape) where
         w.looks Pic (λ pic. (if nat_eq len 1 then pair_written routing shape pic (pair_write_to (pair_of pic) port value) else done tt) >> reply Done) b ws
         (w.binds (λ _. reply Done) first b ws fit
         (either_at w (nat_eq len 1) (pair_written routing shape b.pic effect) (done tt) b ws
-            (w.puts Pic (with_pair b.pic effect.after) (acknowledge_each routing shape (pic_pin effect.pin)) b ws fit (a.pairs effect.after b fit) (a.acks (pic_pin effect.pin) (with_part b Pic (with_pair b.pic effect.after)) ws))
-            (w.ends tt b ws fit))
+        (w.puts Pic (with_pair b.pic effect.after) (acknowledge_each routing shape (pic_pin effect.pin)) b ws fit (a.pairs effect.after b fit) (a.acks (pic_pin effect.pin) (with_part b Pic (with_pair b.pic effect.after)) ws))
+        (w.ends tt b ws fit))
         (answers_at Done refl))
 
     pair_read_holds : (port len : ℕ) → Holds w (pair_read routing shape port len)
@@ -145,8 +162,8 @@ module _ (w : Walk) (routing : Routing) (shape : Shape) where
         let read = pair_read_from (pair_of b.pic) port in
         w.looks Pic (λ pic. if nat_eq len 1 then pair_gave routing shape pic (pair_read_from (pair_of pic) port) else reply (Value 0)) b ws
         (either_at w (nat_eq len 1) (pair_gave routing shape b.pic read) (reply (Value 0)) b ws
-            (w.puts Pic (with_pair b.pic read.after) (acknowledge_each routing shape (pic_pin read.pin) >> reply (Value read.value)) b ws fit (a.pairs read.after b fit) (acked (pic_pin read.pin) (Value read.value) refl (with_part b Pic (with_pair b.pic read.after)) ws))
-            (a.replies (Value 0) refl b ws fit))
+        (w.puts Pic (with_pair b.pic read.after) (acknowledge_each routing shape (pic_pin read.pin) >> reply (Value read.value)) b ws fit (a.pairs read.after b fit) (acked (pic_pin read.pin) (Value read.value) refl (with_part b Pic (with_pair b.pic read.after)) ws))
+        (a.replies (Value 0) refl b ws fit))
 
     pub resend_written_holds : (pin : Option ℕ) → Holds w (resend_written shape pin)
     resend_written_holds None = ended w tt
@@ -159,8 +176,8 @@ module _ (w : Walk) (routing : Routing) (shape : Shape) where
         w.looks Ioapic (λ part. (if nat_eq len 4 then ioapic_written shape part (write_to (ioapic_of part) offset value) else done tt) >> reply Done) b ws
         (w.binds (λ _. reply Done) first b ws fit
         (either_at w (nat_eq len 4) (ioapic_written shape b.ioapic made) (done tt) b ws
-            (w.puts Ioapic (with_ioapic b.ioapic made.after) (resend_written shape made.pin) b ws fit (a.stores offset value b fit) (resend_written_holds made.pin (with_part b Ioapic (with_ioapic b.ioapic made.after)) ws))
-            (w.ends tt b ws fit))
+        (w.puts Ioapic (with_ioapic b.ioapic made.after) (resend_written shape made.pin) b ws fit (a.stores offset value b fit) (resend_written_holds made.pin (with_part b Ioapic (with_ioapic b.ioapic made.after)) ws))
+        (w.ends tt b ws fit))
         (answers_at Done refl))
 
     effects_hold : (n : ℕ) (effect : LapicEffect) → Holds w (store_effects routing shape n effect)
@@ -175,9 +192,9 @@ module _ (w : Walk) (routing : Routing) (shape : Shape) where
         w.looks (Lapic n) (λ apic. (if nat_eq len 4 then lapic_stored routing shape n (store_to apic offset value) (store_effect apic offset value) else done tt) >> reply Done) b ws
         (w.binds (λ _. reply Done) first b ws fit
         (either_at w (nat_eq len 4) (lapic_stored routing shape n (store_to apic offset value) (store_effect apic offset value)) (done tt) b ws
-            (w.puts (Lapic n) (store_to apic offset value) (store_effects routing shape n (store_effect apic offset value)) b ws fit (a.registers n offset value b fit)
-                (effects_hold n (store_effect apic offset value) (with_part b (Lapic n) (store_to apic offset value)) ws))
-            (w.ends tt b ws fit))
+        (w.puts (Lapic n) (store_to apic offset value) (store_effects routing shape n (store_effect apic offset value)) b ws fit (a.registers n offset value b fit)
+        (effects_hold n (store_effect apic offset value) (with_part b (Lapic n) (store_to apic offset value)) ws))
+        (w.ends tt b ws fit))
         (answers_at Done refl))
 
     -- a guest write, whatever it rings
@@ -309,9 +326,9 @@ module _ (w : Walk) (routing : Routing) (shape : Shape) where
           let injects = nat_lt 0 (slice_index counts trigger) in
           let last = inject_count routing shape gsi resample injects >> reply Done in
           unless_holds plain (first_of (assign_reasons r trigger resample)) (put Registry v (put Counters (taken counts trigger) last)) (λ b ws fit.
-              w.puts Registry v (put Counters (taken counts trigger) last) b ws fit (may v b fit) (λ fits.
-                  w.puts Counters (taken counts trigger) last (with_part b Registry v) ws fits (takes counts (with_part b Registry v) fits)
-                  (after w (inject_count routing shape gsi resample injects) (reply Done) (counts_inject injects) (plain Done refl) (with_part (with_part b Registry v) Counters (taken counts trigger)) ws)))))
+          w.puts Registry v (put Counters (taken counts trigger) last) b ws fit (may v b fit) (λ fits.
+          w.puts Counters (taken counts trigger) last (with_part b Registry v) ws fits (takes counts (with_part b Registry v) fits)
+          (after w (inject_count routing shape gsi resample injects) (reply Done) (counts_inject injects) (plain Done refl) (with_part (with_part b Registry v) Counters (taken counts trigger)) ws)))))
 
       release_holds : Signals w shape.cpus → (gsi : ℕ) (last : Bool) → Holds w (release routing gsi last)
       release_holds signals gsi true = let_go_holds w shape.cpus signals (routing.targets gsi) Resample
@@ -337,3 +354,41 @@ module _ (w : Walk) (routing : Routing) (shape : Shape) where
           (after w pics (ioapics >> reply Done) (changed w Pic (λ (part : PicPart). record part { holds = kept_holds r.table (table_of rows) pins.Pic part.holds }) (λ b fit. pic (kept_holds r.table (table_of rows) pins.Pic b.pic.holds) b fit))
           (after w ioapics (reply Done) (changed w Ioapic (λ (part : IoapicPart). record part { holds = kept_holds r.table (table_of rows) pins.Ioapic part.holds }) (λ b fit. ioapic (kept_holds r.table (table_of rows) pins.Ioapic b.ioapic.holds) b fit))
           (plain Done refl)) (with_part b Registry v) ws))
+
+  -- ---- the calls that leave the registry, but for a tick that falls
+
+  -- what they need
+  pub record Plain : Type 0 where
+    pub accesses : Accesses
+    pub rings : Rings
+    pub replied : Replied
+    pub nmis : (n : ℕ) (b : Board) → w.Fit b → w.May b (Lapic n) (record (part_of b (Lapic n)) { nmi = false })
+    pub gives : (n : ℕ) (b : Board) → w.Fit b → w.May b (Lapic n) (given (part_of b (Lapic n)) (giveable_of (part_of b (Lapic n))))
+    pub takes : (counter : ℕ) (b : Board) → w.Fit b → w.May b Counters (taken b.counters counter)
+    pub modes : (reinject : Bool) (b : Board) → w.Fit b → w.May b Tick (in_mode reinject)
+
+  module _ (a : Plain) where
+    rings_hold : (counter : Option ℕ) → Holds w (rung routing shape counter)
+    rings_hold = rung_holds a.accesses.signals a.rings a.accesses.replies
+
+    pub plain_holds : (n : ℕ) (call : Call) → is_plain call ≡ true → Holds w (plan_in_range routing shape n call)
+    plain_holds n (calls.Line gsi line high) is = line_holds a.replied gsi line high
+    plain_holds n (calls.Msi address payload) is = message_holds a.replied address payload
+    plain_holds n (calls.Write counter count) is = write_holds a.replied counter count (routing.trigger counter) refl
+    plain_holds n (calls.Take counter) is = take_holds a.accesses.replies counter (a.takes counter)
+    plain_holds n (calls.TickMode reinject) is = tick_mode_holds a.accesses.replies reinject (a.modes reinject)
+    plain_holds n (calls.PortOut port len value) is = port_out_holds a.accesses rings_hold port len value
+    plain_holds n (calls.PortIn port len) is = port_in_holds a.accesses port len
+    plain_holds n (calls.Store address len value) is = store_holds a.accesses rings_hold n address len value
+    plain_holds n (calls.Load address len) is = load_holds a.accesses n address len
+    plain_holds n calls.Ack is = next_holds a.accesses a.nmis a.gives n
+    plain_holds n calls.Inta is = inta_holds a.accesses
+    plain_holds n calls.Eoi is = eoi_holds a.accesses n
+    plain_holds n (calls.Assign trigger gsi resample) is = cc
+    plain_holds n (calls.Deassign trigger gsi) is = cc
+    plain_holds n (calls.Reroute rows) is = cc
+    plain_holds n (calls.Attach space address len counter want) is = cc
+    plain_holds n (calls.Detach space address len counter want) is = cc
+    plain_holds n (calls.Watch counter gsi) is = cc
+    plain_holds n (calls.Unwatch counter gsi) is = cc
+    plain_holds n calls.Tick is = cc

@@ -46,11 +46,14 @@ pub record HasResampler (registry : RegistryPart) (pin : Pin) : Type 0 where
   pub named : gsi_of registry.table pin ≡ Some gsi
   pub resamples : IsTrue (has_resampler registry.irqfds gsi)
 
--- only pins that there are, so many, are held, and Resample holds only a pin whose GSI has a resampler; `chip` makes a pin of
--- its number
+-- of these holds Resample holds only pins whose GSI has a resampler; `chip` makes a pin of its number
+abbrev pub ResamplersHold : RegistryPart → Holds → (ℕ → Pin) → Type 0
+ResamplersHold registry holds chip = (pin : ℕ) → IsTrue (set.contains holds (hold pin Resample)) → HasResampler registry (chip pin)
+
+-- only pins that there are, so many, are held, and Resample only for resamplers
 pub record HoldsStand (registry : RegistryPart) (holds : Holds) (count : ℕ) (chip : ℕ → Pin) : Type 0 where
   pub there : (h : Hold) → IsTrue (set.contains holds h) → h.pin < count
-  pub resample : (pin : ℕ) → IsTrue (set.contains holds (hold pin Resample)) → HasResampler registry (chip pin)
+  pub resample : ResamplersHold registry holds chip
 
 -- a board that a legal history may lead to
 pub record IsSound (b : Board) : Type 0 where
