@@ -6,7 +6,8 @@ use std::fmt::Write;
 use std::test::Fail;
 
 // Lines of a script of one processor, each with the words of its call in their one spelling behind a bar.
-const LINES: &[u8] = b"\
+fn lines() -> &'static [u8] {
+    b"\
     dev0 line 65535 255 down| line 65535 255 down\n\
     cpu0 line 0 0 up| line 0 0 up\n\
     dev0 msi FFFFFFFFFFFFFFFF ffffffff| msi ffffffffffffffff ffffffff\n\
@@ -36,7 +37,8 @@ const LINES: &[u8] = b"\
     cpu0 load fee00030 4| load fee00030 4\n\
     cpu0 ack| ack\n\
     cpu0 inta| inta\n\
-    cpu0 eoi| eoi";
+    cpu0 eoi| eoi"
+}
 
 fn script(alloc: Global, text: &[u8]) -> Result<Script, Fail> {
     if text.len() > 1_000_000 {
@@ -95,7 +97,7 @@ fn all_spelled(alloc: Global, lines: &[u8]) -> Result<Option<u32>, Fail> {
 
 #[test]
 fn calls_are_spelled_in_one_way(rt: HostRuntime) -> Result<(), Fail> {
-    assert_eq!(rt; all_spelled(rt.alloc(), LINES)?, Some(30));
+    assert_eq!(rt; all_spelled(rt.alloc(), lines())?, Some(30));
     Ok(())
 }
 
