@@ -8,9 +8,9 @@ ghost use Rattle.script_text.specs.Commands.{one_field};
 ghost use Rattle.script_text.specs.Draft.{script_in, IsIndexedDraft, Leads};
 ghost use Rattle.script_text.specs.Scripts.{is_printable, is_passed_over, is_over, version, cpus, line_within, worded, judge, actor_line, with_cpus, with_counters, with_tick, with_calls, with_publications, with_line};
 
+use crate::actor_lines::actor_line;
 use crate::causes::LineFault;
 use crate::draft::Draft;
-use crate::actor_lines::actor_line;
 use crate::numbers::decimal_in;
 use crate::words::{first_word, has_empty_word, is_none, next_word, one_word};
 use irq_base::LineCause;
