@@ -63,7 +63,7 @@ module _ (w : Walk) where
     told_holds : (gsi : ℕ) → Holds w (resample_and_notify routing gsi)
     told_holds gsi =
         looked w parts.Registry _ (λ registry seen. looked w parts.Counters _ (λ counts _. looked w parts.Tick _ (λ tick _. looked w parts.Pic _ (λ pic _. looked w parts.Ioapic _ (λ ioapic _.
-            after w (resample (routing.targets gsi) gsi registry) (notify gsi registry) (resample_holds gsi registry seen) (a.notifies registry gsi seen))))))
+        after w (resample (routing.targets gsi) gsi registry) (notify gsi registry) (resample_holds gsi registry seen) (a.notifies registry gsi seen))))))
 
     tell_holds : (gsi : Option ℕ) → Holds w (tell_concerned routing gsi)
     tell_holds None = ended w tt

@@ -136,8 +136,8 @@ module _ (w : Walk) (routing : Routing) (shape : Shape) where
         w.looks Pic (λ pic. (if nat_eq len 1 then pair_written routing shape pic (pair_write_to (pair_of pic) port value) else done tt) >> reply Done) b ws
         (w.binds (λ _. reply Done) first b ws fit
         (either_at w (nat_eq len 1) (pair_written routing shape b.pic effect) (done tt) b ws
-            (w.puts Pic (with_pair b.pic effect.after) (acknowledge_each routing shape (pic_pin effect.pin)) b ws fit (a.pairs effect.after b fit) (a.acks (pic_pin effect.pin) (with_part b Pic (with_pair b.pic effect.after)) ws))
-            (w.ends tt b ws fit))
+        (w.puts Pic (with_pair b.pic effect.after) (acknowledge_each routing shape (pic_pin effect.pin)) b ws fit (a.pairs effect.after b fit) (a.acks (pic_pin effect.pin) (with_part b Pic (with_pair b.pic effect.after)) ws))
+        (w.ends tt b ws fit))
         (answers_at Done refl))
 
     pair_read_holds : (port len : ℕ) → Holds w (pair_read routing shape port len)
@@ -145,8 +145,8 @@ module _ (w : Walk) (routing : Routing) (shape : Shape) where
         let read = pair_read_from (pair_of b.pic) port in
         w.looks Pic (λ pic. if nat_eq len 1 then pair_gave routing shape pic (pair_read_from (pair_of pic) port) else reply (Value 0)) b ws
         (either_at w (nat_eq len 1) (pair_gave routing shape b.pic read) (reply (Value 0)) b ws
-            (w.puts Pic (with_pair b.pic read.after) (acknowledge_each routing shape (pic_pin read.pin) >> reply (Value read.value)) b ws fit (a.pairs read.after b fit) (acked (pic_pin read.pin) (Value read.value) refl (with_part b Pic (with_pair b.pic read.after)) ws))
-            (a.replies (Value 0) refl b ws fit))
+        (w.puts Pic (with_pair b.pic read.after) (acknowledge_each routing shape (pic_pin read.pin) >> reply (Value read.value)) b ws fit (a.pairs read.after b fit) (acked (pic_pin read.pin) (Value read.value) refl (with_part b Pic (with_pair b.pic read.after)) ws))
+        (a.replies (Value 0) refl b ws fit))
 
     pub resend_written_holds : (pin : Option ℕ) → Holds w (resend_written shape pin)
     resend_written_holds None = ended w tt
@@ -159,8 +159,8 @@ module _ (w : Walk) (routing : Routing) (shape : Shape) where
         w.looks Ioapic (λ part. (if nat_eq len 4 then ioapic_written shape part (write_to (ioapic_of part) offset value) else done tt) >> reply Done) b ws
         (w.binds (λ _. reply Done) first b ws fit
         (either_at w (nat_eq len 4) (ioapic_written shape b.ioapic made) (done tt) b ws
-            (w.puts Ioapic (with_ioapic b.ioapic made.after) (resend_written shape made.pin) b ws fit (a.stores offset value b fit) (resend_written_holds made.pin (with_part b Ioapic (with_ioapic b.ioapic made.after)) ws))
-            (w.ends tt b ws fit))
+        (w.puts Ioapic (with_ioapic b.ioapic made.after) (resend_written shape made.pin) b ws fit (a.stores offset value b fit) (resend_written_holds made.pin (with_part b Ioapic (with_ioapic b.ioapic made.after)) ws))
+        (w.ends tt b ws fit))
         (answers_at Done refl))
 
     effects_hold : (n : ℕ) (effect : LapicEffect) → Holds w (store_effects routing shape n effect)
@@ -175,9 +175,9 @@ module _ (w : Walk) (routing : Routing) (shape : Shape) where
         w.looks (Lapic n) (λ apic. (if nat_eq len 4 then lapic_stored routing shape n (store_to apic offset value) (store_effect apic offset value) else done tt) >> reply Done) b ws
         (w.binds (λ _. reply Done) first b ws fit
         (either_at w (nat_eq len 4) (lapic_stored routing shape n (store_to apic offset value) (store_effect apic offset value)) (done tt) b ws
-            (w.puts (Lapic n) (store_to apic offset value) (store_effects routing shape n (store_effect apic offset value)) b ws fit (a.registers n offset value b fit)
-                (effects_hold n (store_effect apic offset value) (with_part b (Lapic n) (store_to apic offset value)) ws))
-            (w.ends tt b ws fit))
+        (w.puts (Lapic n) (store_to apic offset value) (store_effects routing shape n (store_effect apic offset value)) b ws fit (a.registers n offset value b fit)
+        (effects_hold n (store_effect apic offset value) (with_part b (Lapic n) (store_to apic offset value)) ws))
+        (w.ends tt b ws fit))
         (answers_at Done refl))
 
     -- a guest write, whatever it rings
@@ -309,9 +309,9 @@ module _ (w : Walk) (routing : Routing) (shape : Shape) where
           let injects = nat_lt 0 (slice_index counts trigger) in
           let last = inject_count routing shape gsi resample injects >> reply Done in
           unless_holds plain (first_of (assign_reasons r trigger resample)) (put Registry v (put Counters (taken counts trigger) last)) (λ b ws fit.
-              w.puts Registry v (put Counters (taken counts trigger) last) b ws fit (may v b fit) (λ fits.
-                  w.puts Counters (taken counts trigger) last (with_part b Registry v) ws fits (takes counts (with_part b Registry v) fits)
-                  (after w (inject_count routing shape gsi resample injects) (reply Done) (counts_inject injects) (plain Done refl) (with_part (with_part b Registry v) Counters (taken counts trigger)) ws)))))
+          w.puts Registry v (put Counters (taken counts trigger) last) b ws fit (may v b fit) (λ fits.
+          w.puts Counters (taken counts trigger) last (with_part b Registry v) ws fits (takes counts (with_part b Registry v) fits)
+          (after w (inject_count routing shape gsi resample injects) (reply Done) (counts_inject injects) (plain Done refl) (with_part (with_part b Registry v) Counters (taken counts trigger)) ws)))))
 
       release_holds : Signals w shape.cpus → (gsi : ℕ) (last : Bool) → Holds w (release routing gsi last)
       release_holds signals gsi true = let_go_holds w shape.cpus signals (routing.targets gsi) Resample

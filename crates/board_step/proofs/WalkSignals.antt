@@ -57,7 +57,7 @@ module _ (w : Walk) where
     accept_holds message takers (p ∷ ps) seen =
         either w (set.contains takers p.number) (put (Lapic p.number) (accepted p.apic message) (accept_each message takers ps)) (accept_each message takers ps)
         (λ b ws fit. w.puts (Lapic p.number) (accepted p.apic message) (accept_each message takers ps) b ws fit (accepts p.number p.apic message seen.0 b fit)
-            (accept_holds message takers ps seen.1 (with_part b (Lapic p.number) (accepted p.apic message)) ws))
+        (accept_holds message takers ps seen.1 (with_part b (Lapic p.number) (accepted p.apic message)) ws))
         (accept_holds message takers ps seen.1)
 
     module _ (about : About) (there : Shows about) (message : Message) (from : Option (ℕ × Shorthand)) where
@@ -67,7 +67,7 @@ module _ (w : Walk) where
           either w (is_illegal message) (refuse_vector message about processors (p ∷ ps)) (deliver message from about processors (p ∷ ps))
           (after w (accept_each message (numbers_of (p ∷ ps)) processors) (ignore about BadVector) (accept_holds message (numbers_of (p ∷ ps)) processors seen) (ignored about there BadVector))
           (there.chosen (record { message = message; from = from }) (λ wish. parted message (chosen_of message.mode wish (p ∷ ps))) (λ sent. accept_each message (reached sent) processors >> done (message_answer sent))
-              (λ sent. after w (accept_each message (reached sent) processors) (done (message_answer sent)) (accept_holds message (reached sent) processors seen) (ended w (message_answer sent))))
+          (λ sent. after w (accept_each message (reached sent) processors) (done (message_answer sent)) (accept_holds message (reached sent) processors seen) (ended w (message_answer sent))))
 
       -- a sending, whose local APICs accept
       pub send_holds : (cpus : ℕ) → Holds w (send cpus message from about)
@@ -146,7 +146,7 @@ module _ (w : Walk) where
         raise_holds =
             bound w (λ pic. raise_other cpus targets.ioapic targets.msi source (about pic) >>= (λ other. done (status_of pic other nobody))) (raise_pic targets.pic source) (raise_pic_holds targets.pic refl)
             (λ pic. bound w (λ other. done (status_of pic other nobody)) (raise_other cpus targets.ioapic targets.msi source (about pic)) (raise_other_holds targets.ioapic targets.msi (about pic) (there pic) refl)
-                (λ other. ended w (status_of pic other nobody)))
+            (λ other. ended w (status_of pic other nobody)))
 
         pub inject_holds : Holds w (inject cpus targets source about)
         inject_holds =
