@@ -1,6 +1,6 @@
 use Rattle.std.proofs.Common.{sym, ap, ◌∙◌, subst}
 use Rattle.board_model.specs.Board.{Board}
-use Rattle.board_model.specs.Hand.{Parts, all_parts}
+use Rattle.board_model.specs.Hand.{all_parts}
 use Rattle.board_raise.specs.Fit.{Fits}
 use Rattle.board_raise.specs.InHand.{parts_of, chips_of}
 use Rattle.board_raise.specs.declared.parts.Parts as code
