@@ -1,14 +1,12 @@
 -- What a body left of all parts of a board in code is the next board, and it keeps what a board keeps.
-use Rattle.std.proofs.Common.{◌≡◌, ℕ, ◌+◌, Bool, true, false, if◌then◌else◌, List, length, Some, option_map, refl, sym, ap, ◌∙◌, subst}
+use Rattle.std.proofs.Common.{◌≡◌, ℕ, ◌+◌, Bool, false, if◌then◌else◌, List, length, Some, option_map, refl, sym, ap, ◌∙◌, subst}
 use Rattle.irq_base.specs.declared.call.Call.{Call}
 use Rattle.irq_base.specs.declared.call.Caller.{Caller}
 use Rattle.irq_base.specs.declared.event.Event.{Event}
 use Rattle.irq_base.specs.declared.lists.Entry.{Entry}
 use Rattle.irq_base.specs.declared.reply.Reply.{Reply}
-use Rattle.irq_base.specs.declared.shape.Part.{Part}
 use Rattle.irq_base.specs.declared.shape.Part.TheVariants.{Registry}
-use Rattle.board_model.specs.Board.{Board}
-use Rattle.board_model.specs.Hand.{Parts, part_in, all_parts}
+use Rattle.board_model.specs.Hand.{part_in, all_parts}
 use Rattle.board_model.specs.Published.{published}
 use Rattle.board_raise.specs.declared.board_rig.BoardRig.{BoardRig}
 use Rattle.board_raise.specs.declared.parts.RegistryPart.{RegistryPart}
@@ -16,7 +14,7 @@ use Rattle.board_raise.specs.BoardRig.{words_in}
 use Rattle.board_raise.specs.Fit.{PinsFit}
 use Rattle.board_raise.specs.InHand.{registry_of, parts_of, chips_of}
 use Rattle.board_step.specs.declared.board.Board.TheInside.{Inside}
-use Rattle.board_step.specs.Step.{would_publish, is_publication, Step}
+use Rattle.board_step.specs.Step.{would_publish, Step}
 use Rattle.board_step.specs.Publications.{KeepsTheFrame}
 use Rattle.board_step.specs.Sound.{IsSound}
 use Rattle.board_step.specs.Laws.{IsTyped}

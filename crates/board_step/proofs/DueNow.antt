@@ -1,5 +1,5 @@
 -- An Ack answers what is due.
-use Rattle.std.proofs.Common.{◌≡◌, ℕ, ◌<◌, zero, suc, Bool, true, false, true≢false, ◌&&◌, if◌then◌else◌, List, [], ◌∷◌, ◌++◌, map, length, slice_get, is_some, Some, None, refl, sym, ap, ◌∙◌, subst, arith}
+use Rattle.std.proofs.Common.{◌≡◌, ℕ, ◌<◌, zero, suc, Bool, true, false, true≢false, ◌&&◌, if◌then◌else◌, List, [], ◌∷◌, ◌++◌, map, length, slice_get, is_some, Some, None, refl, sym, ap, ◌∙◌, arith}
 use Rattle.std.specs.Prelude.{IfSome, option_map, unwrap_or}
 use Rattle.std.specs.declared.option.Option.{Option}
 use Rattle.irq_base.specs.declared.call.Call.TheVariants.{Ack}
@@ -27,7 +27,6 @@ use Rattle.board_ack.specs.Acknowledge.{acknowledge_each}
 use Rattle.board_step.specs.declared.due.Due.{Due}
 use Rattle.board_step.specs.declared.due.Due.TheVariants as dues
 use Rattle.board_step.specs.Processors.{cycle_pins, cycle_made, give, given_reply, hears_pair, give_of_pair, take_nmi}
-use Rattle.board_step.specs.Step.{plan_on}
 use Rattle.board_step.specs.declared.board.Board.TheInside.{Inside}
 use Rattle.board_step.specs.History.{opening_pic}
 use Rattle.board_step.specs.Owned.{board_in, IsKept}

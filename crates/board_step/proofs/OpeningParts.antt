@@ -1,5 +1,5 @@
 -- The parts at power-on that the code makes; and what parts of a sound board fit.
-use Rattle.std.proofs.Common.{◌≡◌, ℕ, ◌+◌, ◌-◌, ◌^◌, ◌<◌, ◌≤◌, zero, suc, Bool, true, false, true≢false, List, [], ◌∷◌, ◌++◌, map, length, replicate, slice_get, slice_set, Some, None, IfSome, refl, sym, ap, ◌∙◌, subst, arith, add-one}
+use Rattle.std.proofs.Common.{◌≡◌, ℕ, ◌+◌, ◌-◌, ◌<◌, zero, suc, Bool, true, false, true≢false, List, [], ◌∷◌, ◌++◌, map, length, replicate, slice_get, slice_set, Some, None, IfSome, refl, sym, ap, ◌∙◌, subst, arith, add-one}
 use Rattle.std.proofs.lemmas.List.{length-map, length-append, length-replicate, map-append}
 use Rattle.std.specs.Prelude.{unwrap_or}
 use Rattle.std.specs.FinSet as set
@@ -14,7 +14,7 @@ use Rattle.source_levels.specs.Holds.{Holds, hold, hold_cmp, is_high}
 use Rattle.source_levels.proofs.HoldLemmas.{held_where_high}
 use Rattle.lapic.specs.Registers.{LocalApic, power_on}
 use Rattle.board_model.specs.Board.{Board}
-use Rattle.board_model.specs.Hand.{flat, part_in, all_parts}
+use Rattle.board_model.specs.Hand.{flat, all_parts}
 use Rattle.irq_base.specs.declared.shape.Shape.{Shape}
 use Rattle.board_model.specs.Published.{published}
 use Rattle.board_raise.specs.declared.board_rig.BoardRig.{BoardRig}

@@ -1,5 +1,5 @@
 -- What a processor would be given now (SDM volume 3, interrupt acceptance; virtual wire mode through LINT0).
-use Rattle.std.specs.Prelude.{◌≡◌, ℕ, ◌&&◌, if◌then◌else◌, List, [], ◌∷◌, Some, None}
+use Rattle.std.specs.Prelude.{◌≡◌, ℕ, ◌&&◌, if◌then◌else◌, [], ◌∷◌, Some, None}
 use Rattle.std.specs.declared.option.Option.{Option}
 use Rattle.irq_base.specs.declared.call.Call.TheVariants.{Ack}
 use Rattle.irq_base.specs.declared.call.Caller.TheVariants.{Cpu}

@@ -112,6 +112,8 @@ impl Board {
     /// All its parts, which fit its shape, and the words that it publishes.
     pub fn into_parts(self) -> (Parts, Words)
         ensures parts { parts_of result.0 ≡ all_parts self }
+        ensures whole { IsWhole self.shape (parts_of result.0) }
+        ensures made { board_of self.shape (parts_of result.0) self.length self.publications ≡ self }
         ensures fits { Fits self.shape (parts_of result.0) (chips_of result.0) }
         ensures words { words_in result.1 ≡ published self.registry self.shape.tick }
         ensures tick { result.1.tick ≡ self.shape.tick }
