@@ -5,11 +5,10 @@ use Rattle.irq_base.specs.declared.call.Call.{Call}
 use Rattle.irq_base.specs.declared.call.Caller.{Caller}
 use Rattle.irq_base.specs.declared.event.Event.{Event}
 use Rattle.irq_base.specs.declared.reply.Reply.{Reply}
-use Rattle.irq_base.specs.declared.shape.Part.{Part}
 use Rattle.irq_base.specs.declared.shape.Shape.{Shape}
 use Rattle.board_model.specs.Board.{Board}
 use Rattle.board_model.specs.Hand.{Parts, part_in, all_parts}
-use Rattle.board_model.specs.Run.{Wishes, Log, Outcome, run, reaches, OnParts, gives, lacks, run_on}
+use Rattle.board_model.specs.Run.{Wishes, Log, run, reaches, OnParts, gives, lacks, run_on}
 use Rattle.board_model.specs.Agreement.{Agrees, Exact, LacksReached}
 use Rattle.board_model.proofs.OnParts.{exact_on_parts}
 use Rattle.board_model.proofs.Words.{words_tell}
@@ -17,7 +16,7 @@ use Rattle.board_raise.specs.declared.lacks.Lacks.{Lacks}
 use Rattle.board_step.specs.Calls.{plan_of}
 use Rattle.board_step.specs.Step.{would_publish, with_counts, plan_on, counted}
 use Rattle.board_step.specs.Reach.{reach}
-use Rattle.board_step.specs.Bodies.{IsOf, MayCall, IsWorth, plan_by, IsStepFrom, BodiesStep, Did, LeadsFrom, DoneLeads}
+use Rattle.board_step.specs.Bodies.{IsOf, IsWorth, plan_by, IsStepFrom, BodiesStep, Did, LeadsFrom, DoneLeads}
 use Rattle.board_step.proofs.CountingAnswers.{answers_once}
 use Rattle.board_step.proofs.ReachCalls.{reach_is_table}
 

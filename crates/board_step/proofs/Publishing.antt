@@ -7,7 +7,6 @@ use Rattle.irq_base.specs.Refusals.{Reason, first_of}
 use Rattle.irq_base.specs.declared.call.Call.{Call}
 use Rattle.irq_base.specs.declared.call.Call.TheVariants as calls
 use Rattle.irq_base.specs.declared.call.Caller.{Caller}
-use Rattle.irq_base.specs.declared.lists.Entry.{Entry}
 use Rattle.irq_base.specs.declared.refusal.Refusal.{Refusal}
 use Rattle.irq_base.specs.declared.reply.Reply.{Reply}
 use Rattle.irq_base.specs.declared.reply.Reply.TheVariants.{Done, Removed, Refused, Nothing}
@@ -26,7 +25,7 @@ use Rattle.board_step.specs.Registrations.{unless_refused, inject_count, assigne
 use Rattle.board_step.specs.Calls.{number_of, plan_in_range}
 use Rattle.board_step.specs.Step.{later_reasons, refusal_of, does_publish, publishes_unless, would_publish, plan_on, outcome_of, with_counts, counted, is_done, is_removed, did_publish, is_publication}
 use Rattle.board_step.specs.Reach.{reach, of_call}
-use Rattle.board_step.specs.History.{opening, Leads}
+use Rattle.board_step.specs.History.{opening}
 use Rattle.board_step.specs.Publications.{StepsShowPublications, PublicationsReachTheRegistry, StepsKeepTheFrame, HistoriesKeepTheFrame, LegalHistoriesCount}
 use Rattle.board_step.proofs.Refusing.{refuses_first}
 use Rattle.board_step.proofs.SoundOpening.{apics_many}

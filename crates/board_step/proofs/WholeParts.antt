@@ -1,11 +1,10 @@
 -- The board of parts, and the parts of a board.
-use Rattle.std.proofs.Common.{◌≡◌, ℕ, ◌<◌, zero, suc, Bool, true, false, true≢false, nat_lt, List, [], ◌∷◌, length, map, slice_get, is_some, Some, None, refl, sym, ap, ◌∙◌, subst, arith}
+use Rattle.std.proofs.Common.{◌≡◌, ℕ, ◌<◌, zero, suc, true, true≢false, nat_lt, List, [], ◌∷◌, length, map, slice_get, is_some, Some, None, refl, sym, ap, ◌∙◌, arith}
 use Rattle.std.specs.Prelude.{unwrap_or}
 use Rattle.std.specs.declared.option.Option.{Option}
 use Rattle.irq_base.specs.declared.shape.Part.TheVariants.{Registry, Counters, Tick, Pic, Ioapic, Lapic}
 use Rattle.lapic.specs.Registers.{LocalApic, power_on}
 use Rattle.tick_reinject.specs.Ticks.{in_mode}
-use Rattle.board_model.specs.Board.{Board}
 use Rattle.irq_base.specs.declared.shape.Part.{Part}
 use Rattle.board_model.specs.Hand.{flat, part_in, all_parts}
 use Rattle.board_step.specs.History.{opening_registry, opening_pic, opening_ioapic}

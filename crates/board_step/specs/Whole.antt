@@ -1,7 +1,7 @@
 -- All parts of a board in hand, and the board that has them (this board's own).
 use Rattle.std.specs.Prelude.{◌≡◌, ℕ, Bool, true, nat_lt, [], length, map, is_some, unwrap_or}
 use Rattle.irq_base.specs.declared.shape.Part.{Part}
-use Rattle.irq_base.specs.declared.shape.Part.TheVariants.{Registry, Counters, Tick, Pic, Ioapic, Lapic}
+use Rattle.irq_base.specs.declared.shape.Part.TheVariants.{Lapic}
 use Rattle.irq_base.specs.declared.shape.Shape.{Shape}
 use Rattle.lapic.specs.Registers.{power_on}
 use Rattle.tick_reinject.specs.Ticks.{in_mode}
