@@ -25,7 +25,7 @@ use Rattle.ack_notifiers.specs.Rows.{watched}
 use Rattle.board_step.specs.Registrations.{write}
 use Rattle.board_step.proofs.Walk.{Walk, Holds, after}
 use Rattle.board_step.proofs.WalkSignals.{Shows, inject_only}
-use Rattle.board_step.proofs.WalkAcks.{Tells, Ends, acks_hold, inject_tick_holds}
+use Rattle.board_step.proofs.WalkAcks.{end_level_holds, Tells, Ends, acks_hold, inject_tick_holds}
 use Rattle.board_step.proofs.WalkOpen.{Open, of_log, open_signals, open_raise, open_accesses, open_rings}
 use Rattle.board_step.proofs.WalkCalls.{is_signal, Accesses, count_holds, rung_holds, take_holds, assign_holds, deassign_holds, reroute_holds, attach_holds, detach_holds, watch_holds, unwatch_holds, tick_mode_holds, port_out_holds, port_in_holds, store_holds, load_holds, next_holds, inta_holds, eoi_holds}
 
@@ -74,15 +74,13 @@ module _ (routing : Routing) (shape : Shape) where
 
   ends : Ends mute routing shape
   ends = record {
-    signals = open_signals mute is_open shape.cpus;
-    resends = λ pin. shows (resent pin) refl;
-    clears = λ pin b fit. tt;
+    levels = end_level_holds mute shape.cpus (open_signals mute is_open shape.cpus) (λ pin. shows (resent pin) refl) (λ pin b fit. tt);
     frees = λ b fit. tt;
     ticks = inject_tick_holds mute routing shape (open_signals mute is_open shape.cpus) (open_raise mute is_open _ _) (λ status b fit. tt) (λ pic. injected shape.tick pic) (λ pic. shows (injected shape.tick pic) refl);
   }
 
   accesses : Accesses mute routing shape
-  accesses = open_accesses mute is_open routing shape replies (acks_hold mute routing shape (λ pin b ws fit. refl) tells ends) (λ pin. shows (resent pin) refl) (shows ipi refl)
+  accesses = open_accesses mute is_open routing shape replies (acks_hold mute routing shape (λ pin b ws fit. refl) (open_signals mute is_open shape.cpus) tells ends) (λ pin. shows (resent pin) refl) (shows ipi refl)
 
   rings : (counter : Option ℕ) → Holds mute (rung routing shape counter)
   rings = rung_holds mute routing shape (open_signals mute is_open shape.cpus) (open_rings mute is_open routing shape replies (λ counter b ws fit. refl) (λ gsi pic. shows (injected gsi pic) refl)) replies

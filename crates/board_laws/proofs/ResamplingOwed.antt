@@ -26,7 +26,7 @@ use Rattle.board_model.specs.Run.{Wishes, Outcome, then_run, run}
 use Rattle.board_model.proofs.Sequence.{run-bind}
 use Rattle.board_raise.specs.Send.{send}
 use Rattle.board_raise.specs.Signal.{let_go}
-use Rattle.board_ack.specs.Acknowledge.{signal_each, resample, notify, resample_and_notify, tell_concerned, end_level, end_tick, acknowledge, acknowledge_each}
+use Rattle.board_ack.specs.Acknowledge.{resend, signal_each, resample, notify, resample_and_notify, tell_concerned, end_level, end_tick, acknowledge, acknowledge_each}
 use Rattle.board_laws.specs.Resampling.{signal_told, signals_told, signal_owed, signals_owed}
 use Rattle.board_laws.proofs.ResamplingPlans.{AreQuiet, no_more, Stays, same, left, shows_left, left_signals, left_ends}
 use Rattle.board_laws.proofs.ResamplingAcks.{has_it, same_number, Resamples, Does, Acks, then_does, acks_quietly, resamples_later, Said, said, resamples_tell, watches_tell, signal_acks, LetsGo, lets_go}
@@ -39,7 +39,7 @@ use Rattle.board_raise.proofs.Manner.{in_reply}
 use Rattle.board_laws.specs.Resampling.{counters_told}
 use Rattle.board_step.proofs.Walk.{Walk, Holds as HoldsOf, of_relation, ended, after}
 use Rattle.board_step.proofs.WalkSignals.{Shows, let_go_holds}
-use Rattle.board_step.proofs.WalkAcks.{end_level_holds, end_tick_holds}
+use Rattle.board_step.proofs.WalkAcks.{resend_holds, end_tick_holds}
 use Rattle.board_step.proofs.WalkCalls.{Accesses}
 
 -- ---- what events tell and owe
@@ -225,7 +225,7 @@ module _ (r : RegistryPart) where
     -- ---- steps 4 and 5
 
     rest_left : (pin : Pin) (gsi : Option ℕ) → HoldsOf (left r) (end_level shape.cpus pin >> end_tick routing shape gsi)
-    rest_left pin gsi = after (left r) (end_level shape.cpus pin) (end_tick routing shape gsi) (end_level_holds (left r) routing shape (left_ends r shape) pin) (end_tick_holds (left r) routing shape (left_ends r shape) gsi)
+    rest_left pin gsi = after (left r) (end_level shape.cpus pin) (end_tick routing shape gsi) ((left_ends r shape).levels pin) (end_tick_holds (left r) routing shape (left_ends r shape) gsi)
 
     -- ---- exactly these events
 
@@ -288,31 +288,12 @@ module _ (r : RegistryPart) where
 
     -- ---- accesses
 
-    sent_pays : {A : Type 0} (m : Heading) (about : About) (s : Sent) (b : Board) (o : Outcome A) → in_reply about ≡ false → Pays b o → Pays b (with_log (sending m about s) o)
-    sent_pays m (injected gsi pic) s b o e p = record { does = record { registry = p.does.registry; counts = p.does.counts; pic = p.does.pic; ioapic = p.does.ioapic; follows = (tt, p.does.follows) }; once = p.once }
-    sent_pays m (resent pin) s b o e p = record { does = record { registry = p.does.registry; counts = p.does.counts; pic = p.does.pic; ioapic = p.does.ioapic; follows = (tt, p.does.follows) }; once = p.once }
-    sent_pays m ipi s b o e p = record { does = record { registry = p.does.registry; counts = p.does.counts; pic = p.does.pic; ioapic = p.does.ioapic; follows = (tt, p.does.follows) }; once = p.once }
-    sent_pays m (the_reply pic) s b o e p = absurd (true≢false e)
-
-    -- a sending that shows in an event
-    pays_shows : (about : About) → in_reply about ≡ false → Shows pays about
-    pays_shows about e = record {
-      shown = λ other. settles_quietly (show about other) ((shows_left r about).shown other);
-      chosen = λ m g k h b ws fit. let s = g (next_wish ws) in sent_pays m about s b (run (k s) b (later_wishes ws)) e (h s b (later_wishes ws) fit);
-    }
-
     pub pays_accesses : Accesses pays routing shape
     pays_accesses = record {
-      signals = record {
-        sends = λ message from about there. settles_quietly (send shape.cpus message from about) ((left_signals r shape.cpus).sends message from about (shows_left r about));
-        accepts = (left_signals r shape.cpus).accepts;
-        pic_leaves = (left_signals r shape.cpus).pic_leaves;
-        ioapic_leaves = (left_signals r shape.cpus).ioapic_leaves;
-      };
       acks = each_settles;
       replies = λ answer plain. settles_quietly (reply answer) (λ b ws fit. record { stays = same r refl refl refl refl fit; quiet = tt });
-      resends = λ pin. pays_shows (resent pin) refl;
-      ipis = pays_shows ipi refl;
+      resends = λ pin message. settles_quietly (resend shape.cpus pin message) (resend_holds (left r) shape.cpus (left_signals r shape.cpus) pin (shows_left r (resent pin)) message);
+      ipis = λ message from. settles_quietly (send shape.cpus message from ipi) ((left_signals r shape.cpus).sends message from ipi (shows_left r ipi));
       pairs = λ pair b fit. same r refl refl refl refl fit;
       stores = λ offset value b fit. same r refl refl refl refl fit;
       registers = λ n offset value b fit. same r refl refl refl refl fit;

@@ -26,7 +26,7 @@ use Rattle.board_model.specs.Routing.{routing_of_registry}
 use Rattle.irq_base.specs.declared.shape.Shape.{Shape}
 use Rattle.board_step.proofs.Walk.{Walk, Holds as HoldsOf, of_relation}
 use Rattle.board_step.proofs.WalkSignals.{Shows, Signals, MayRaise, send_holds}
-use Rattle.board_step.proofs.WalkAcks.{Ends, inject_tick_holds}
+use Rattle.board_step.proofs.WalkAcks.{end_level_holds, Ends, inject_tick_holds}
 use Rattle.board_step.proofs.WalkOpen.{Open, of_log}
 
 -- ---- holds
@@ -186,9 +186,7 @@ module _ (r : RegistryPart) where
 
   pub left_ends : (shape : Shape) → Ends left (routing_of_registry r shape.tick) shape
   left_ends shape = record {
-    signals = left_signals shape.cpus;
-    resends = λ pin. shows_left (resent pin);
-    clears = λ pin b fit. same refl refl refl refl fit;
+    levels = end_level_holds left shape.cpus (left_signals shape.cpus) (λ pin. shows_left (resent pin)) (λ pin b fit. same refl refl refl refl fit);
     frees = λ b fit. same refl refl refl refl fit;
     ticks = inject_tick_holds left (routing_of_registry r shape.tick) shape (left_signals shape.cpus) (left_raise _ TickSource tick_differs) (λ status b fit. same refl refl refl refl fit) (λ pic. injected shape.tick pic) (λ pic. shows_left (injected shape.tick pic));
   }

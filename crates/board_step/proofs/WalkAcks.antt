@@ -65,24 +65,22 @@ module _ (w : Walk) where
 
   -- ---- steps 4 and 5
 
+  pub end_level_holds : (cpus : ℕ) → Signals w cpus → ((pin : ℕ) → Shows w (resent pin)) → ((pin : ℕ) (b : Board) → w.Fit b → w.May b parts.Ioapic (with_ioapic b.ioapic (acknowledged (ioapic_of b.ioapic) pin))) → (pin : Pin) → Holds w (end_level cpus pin)
+  end_level_holds cpus s resends clears (pins.Pic pin) = ended w tt
+  end_level_holds cpus s resends clears (pins.Ioapic pin) = λ b ws fit. w.looks parts.Ioapic (λ part. if (entry_at (ioapic_of part) pin).level then clear_and_resend cpus pin part else done tt) b ws
+      (either_at w (entry_at (ioapic_of b.ioapic) pin).level (clear_and_resend cpus pin b.ioapic) (done tt) b ws
+      (w.puts parts.Ioapic (with_ioapic b.ioapic (acknowledged (ioapic_of b.ioapic) pin)) (resend cpus pin (resend_of (acknowledged (ioapic_of b.ioapic) pin) pin)) b ws fit (clears pin b fit)
+          (resend_holds cpus s pin (resends pin) (resend_of (acknowledged (ioapic_of b.ioapic) pin) pin) (with_part b parts.Ioapic (with_ioapic b.ioapic (acknowledged (ioapic_of b.ioapic) pin))) ws))
+      (w.ends tt b ws fit))
+
   module _ (routing : Routing) (shape : Shape) where
     -- what they need
     pub record Ends : Type 0 where
-      pub signals : Signals w shape.cpus
-      pub resends : (pin : ℕ) → Shows w (resent pin)
-      pub clears : (pin : ℕ) (b : Board) → w.Fit b → w.May b parts.Ioapic (with_ioapic b.ioapic (acknowledged (ioapic_of b.ioapic) pin))
+      pub levels : (pin : Pin) → Holds w (end_level shape.cpus pin)
       pub frees : (b : Board) → w.Fit b → w.May b parts.Tick (tick_acked b.tick)
       pub ticks : Holds w (inject_tick routing shape (λ pic. injected shape.tick pic))
 
     module _ (a : Ends) where
-      pub end_level_holds : (pin : Pin) → Holds w (end_level shape.cpus pin)
-      end_level_holds (pins.Pic pin) = ended w tt
-      end_level_holds (pins.Ioapic pin) = λ b ws fit. w.looks parts.Ioapic (λ part. if (entry_at (ioapic_of part) pin).level then clear_and_resend shape.cpus pin part else done tt) b ws
-          (either_at w (entry_at (ioapic_of b.ioapic) pin).level (clear_and_resend shape.cpus pin b.ioapic) (done tt) b ws
-          (w.puts parts.Ioapic (with_ioapic b.ioapic (acknowledged (ioapic_of b.ioapic) pin)) (resend shape.cpus pin (resend_of (acknowledged (ioapic_of b.ioapic) pin) pin)) b ws fit (a.clears pin b fit)
-          (resend_holds shape.cpus a.signals pin (a.resends pin) (resend_of (acknowledged (ioapic_of b.ioapic) pin) pin) (with_part b parts.Ioapic (with_ioapic b.ioapic (acknowledged (ioapic_of b.ioapic) pin))) ws))
-          (w.ends tt b ws fit))
-
       inject_next_holds : (injects : Bool) → Holds w (inject_next routing shape injects)
       inject_next_holds true = a.ticks
       inject_next_holds false = ended w tt
@@ -94,13 +92,13 @@ module _ (w : Walk) where
 
     -- ---- all five
 
-    module _ (acked : (pin : Pin) → Holds w (say (Acked pin (routing.gsi_of pin)))) (tells : Tells) (a : Ends) where
+    module _ (acked : (pin : Pin) → Holds w (say (Acked pin (routing.gsi_of pin)))) (s : Signals w shape.cpus) (tells : Tells) (a : Ends) where
       acknowledge_holds : (pin : Pin) → Holds w (acknowledge routing shape pin)
       acknowledge_holds pin =
           let gsi = routing.gsi_of pin in
           let last = end_tick routing shape gsi in
           after w (say (Acked pin gsi)) (tell_concerned routing gsi >> (end_level shape.cpus pin >> last)) (acked pin)
-          (after w (tell_concerned routing gsi) (end_level shape.cpus pin >> last) (tell_holds routing shape.cpus a.signals tells gsi) (after w (end_level shape.cpus pin) last (end_level_holds a pin) (end_tick_holds a gsi)))
+          (after w (tell_concerned routing gsi) (end_level shape.cpus pin >> last) (tell_holds routing shape.cpus s tells gsi) (after w (end_level shape.cpus pin) last (a.levels pin) (end_tick_holds a gsi)))
 
       pub acks_hold : (pins : List Pin) → Holds w (acknowledge_each routing shape pins)
       acks_hold [] = ended w tt

@@ -12,7 +12,9 @@ use Rattle.irq_base.specs.declared.event.Pin.{Pin}
 use Rattle.irq_base.specs.declared.event.Pin.TheVariants as pins
 use Rattle.irq_base.specs.declared.call.Row.{Row}
 use Rattle.irq_base.specs.declared.message.Source.TheVariants.{Line, Resample}
+use Rattle.irq_base.specs.declared.message.Message.{Message}
 use Rattle.irq_base.specs.declared.refusal.Refusal.{Refusal}
+use Rattle.lapic.specs.declared.outcome.Shorthand.{Shorthand}
 use Rattle.irq_base.specs.declared.reply.Reply.{Reply}
 use Rattle.irq_base.specs.declared.reply.Reply.TheVariants.{Signal, Done, Count, Empty, Removed, Value, Exit, Vector, Extint, Nmi, Ended, Nothing, Held, Refused}
 use Rattle.irq_base.specs.declared.shape.Part.TheVariants.{Registry, Counters, Tick, Pic, Ioapic, Lapic}
@@ -42,7 +44,7 @@ use Rattle.board_model.specs.Registry.{RegistryPart}
 use Rattle.board_model.specs.Routing.{Routing}
 use Rattle.board_model.specs.Chips.{PicPart, IoapicPart, pair_of, ioapic_of, with_pair, with_ioapic}
 use Rattle.board_model.specs.Statuses.{TargetAnswer}
-use Rattle.board_model.specs.Plan.{injected, resent, ipi, the_reply, Plan, done, put, say, change, reply, ◌>>◌}
+use Rattle.board_model.specs.Plan.{injected, ipi, the_reply, Plan, done, put, say, change, reply, ◌>>◌}
 use Rattle.board_model.specs.Run.{Wishes}
 use Rattle.source_levels.specs.Holds.{Holds as PinHolds}
 use Rattle.board_raise.specs.Send.{send}
@@ -57,7 +59,6 @@ use Rattle.board_step.specs.Accesses.{pair_written, pair_write, pair_gave, pair_
 use Rattle.board_step.specs.Calls.{plan_in_range}
 use Rattle.board_step.proofs.Walk.{Walk, Holds, ended, bound, after, either, either_at, looked, written, changed}
 use Rattle.board_step.proofs.WalkSignals.{Shows, Signals, MayRaise, let_go_holds, lower_holds, raise_holds, inject_only}
-use Rattle.board_step.proofs.WalkAcks.{resend_holds}
 
 -- whether a reply is a status
 abbrev pub is_signal : Reply → Bool
@@ -85,11 +86,10 @@ module _ (w : Walk) (routing : Routing) (shape : Shape) where
 
   -- what accesses of chips and ends of interrupts need
   pub record Accesses : Type 0 where
-    pub signals : Signals w shape.cpus
     pub acks : (list : List Pin) → Holds w (acknowledge_each routing shape list)
     pub replies : (r : Reply) → is_signal r ≡ false → Holds w (reply r)
-    pub resends : (pin : ℕ) → Shows w (resent pin)
-    pub ipis : Shows w ipi
+    pub resends : (pin : ℕ) (message : Option Message) → Holds w (resend shape.cpus pin message)
+    pub ipis : (message : Message) (from : Option (ℕ × Shorthand)) → Holds w (send shape.cpus message from ipi)
     pub pairs : (pair : Pair) (b : Board) → w.Fit b → w.May b Pic (with_pair b.pic pair)
     pub stores : (offset value : ℕ) (b : Board) → w.Fit b → w.May b Ioapic (with_ioapic b.ioapic (write_to (ioapic_of b.ioapic) offset value).after)
     pub registers : (n offset value : ℕ) (b : Board) → w.Fit b → w.May b (Lapic n) (store_to (part_of b (Lapic n)) offset value)
@@ -167,7 +167,7 @@ module _ (w : Walk) (routing : Routing) (shape : Shape) where
 
     pub resend_written_holds : (pin : Option ℕ) → Holds w (resend_written shape pin)
     resend_written_holds None = ended w tt
-    resend_written_holds (Some pin) = looked w Ioapic (λ part. resend shape.cpus pin (resend_of (ioapic_of part) pin)) (λ part _. resend_holds w shape.cpus a.signals pin (a.resends pin) (resend_of (ioapic_of part) pin))
+    resend_written_holds (Some pin) = looked w Ioapic (λ part. resend shape.cpus pin (resend_of (ioapic_of part) pin)) (λ part _. a.resends pin (resend_of (ioapic_of part) pin))
 
     pub ioapic_store_holds : (offset len value : ℕ) → Holds w (ioapic_store shape offset len value)
     ioapic_store_holds offset len value = λ b ws fit.
@@ -183,7 +183,7 @@ module _ (w : Walk) (routing : Routing) (shape : Shape) where
     effects_hold : (n : ℕ) (effect : LapicEffect) → Holds w (store_effects routing shape n effect)
     effects_hold n effects.Plain = ended w tt
     effects_hold n (effects.Ended vector) = vector_holds vector
-    effects_hold n (effects.Send message) = bound w (λ answer. done tt) (send shape.cpus message.message (Some (n, message.to)) ipi) (a.signals.sends message.message (Some (n, message.to)) ipi a.ipis) (λ _. ended w tt)
+    effects_hold n (effects.Send message) = bound w (λ answer. done tt) (send shape.cpus message.message (Some (n, message.to)) ipi) (a.ipis message.message (Some (n, message.to))) (λ _. ended w tt)
 
     pub lapic_store_holds : (n offset len value : ℕ) → Holds w (lapic_store routing shape n offset len value)
     lapic_store_holds n offset len value = λ b ws fit.
@@ -374,7 +374,7 @@ module _ (w : Walk) (routing : Routing) (shape : Shape) where
 
   module _ (a : Plain) where
     rings_hold : (counter : Option ℕ) → Holds w (rung routing shape counter)
-    rings_hold = rung_holds a.accesses.signals a.rings a.accesses.replies
+    rings_hold = rung_holds a.replied.signals a.rings a.accesses.replies
 
     pub plain_holds : (n : ℕ) (call : Call) → is_plain call ≡ true → Holds w (plan_in_range routing shape n call)
     plain_holds n (calls.Line gsi line high) is = line_holds a.replied gsi line high

@@ -37,7 +37,7 @@ use Rattle.board_step.specs.Refusals.{write_reasons}
 use Rattle.board_step.specs.Registrations.{source_of}
 use Rattle.board_step.proofs.Walk.{Walk, Holds, Seen, kept_by, after, changed}
 use Rattle.board_step.proofs.WalkSignals.{Shows, Signals, MayRaise, send_holds}
-use Rattle.board_step.proofs.WalkAcks.{Tells, Ends, acks_hold, inject_tick_holds}
+use Rattle.board_step.proofs.WalkAcks.{Tells, Ends, resend_holds, end_level_holds, acks_hold, inject_tick_holds}
 use Rattle.board_step.proofs.WalkCalls.{Plain}
 
 module _ (P : Board → Type 0) where
@@ -113,16 +113,15 @@ module _ (P : Board → Type 0) where
       }
 
       ends : Ends walk routing shape
-      ends = record { signals = signals; resends = λ pin. shows (resent pin); clears = k.clears; frees = k.frees; ticks = tick_kept (λ pic. injected shape.tick pic) }
+      ends = record { levels = end_level_holds walk shape.cpus signals (λ pin. shows (resent pin)) k.clears; frees = k.frees; ticks = tick_kept (λ pic. injected shape.tick pic) }
 
       pub calls_kept : Plain walk routing shape
       calls_kept = record {
         accesses = record {
-          signals = signals;
-          acks = acks_hold walk routing shape (λ pin b ws fit. fit) tells ends;
+          acks = acks_hold walk routing shape (λ pin b ws fit. fit) signals tells ends;
           replies = λ r plain b ws fit. fit;
-          resends = λ pin. shows (resent pin);
-          ipis = shows ipi;
+          resends = λ pin message. resend_holds walk shape.cpus signals pin (shows (resent pin)) message;
+          ipis = λ message from. signals.sends message from ipi (shows ipi);
           pairs = k.pairs;
           stores = k.stores;
           registers = k.registers;

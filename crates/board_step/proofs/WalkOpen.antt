@@ -20,6 +20,7 @@ use Rattle.board_raise.specs.Signal.{lowered_status}
 use Rattle.board_ack.specs.Acknowledge.{acknowledge_each}
 use Rattle.board_step.proofs.Walk.{Walk, Holds, of_relation}
 use Rattle.board_step.proofs.WalkSignals.{Shows, Signals, MayRaise, send_holds}
+use Rattle.board_step.proofs.WalkAcks.{resend_holds}
 use Rattle.board_step.proofs.WalkCalls.{is_signal, Accesses, Rings, Replied}
 
 -- what shows along a plan, whatever the board
@@ -57,11 +58,10 @@ module _ (w : Walk) where
     module _ (routing : Routing) (shape : Shape) (replies : (r : Reply) → is_signal r ≡ false → Holds w (reply r)) where
       pub open_accesses : ((list : List Pin) → Holds w (acknowledge_each routing shape list)) → ((pin : ℕ) → Shows w (resent pin)) → Shows w ipi → Accesses w routing shape
       open_accesses acks resends ipis = record {
-        signals = open_signals shape.cpus;
         acks = acks;
         replies = replies;
-        resends = resends;
-        ipis = ipis;
+        resends = λ pin message. resend_holds w shape.cpus (open_signals shape.cpus) pin (resends pin) message;
+        ipis = λ message from. (open_signals shape.cpus).sends message from ipi ipis;
         pairs = λ pair b fit. o.pic _ b fit;
         stores = λ offset value b fit. o.ioapic _ b fit;
         registers = λ n offset value b fit. o.lapic n _ b fit;
