@@ -8,6 +8,7 @@ use Rattle.irq_base.specs.declared.event.Pin.TheVariants as pins
 use Rattle.irq_base.specs.declared.message.Message.{Message}
 use Rattle.irq_base.specs.declared.message.Source.TheVariants.{Resample, Tick as TickSource}
 use Rattle.irq_base.specs.declared.message.Targets.{Targets}
+use Rattle.irq_base.specs.declared.shape.Part.{Part}
 use Rattle.irq_base.specs.declared.shape.Part.TheVariants as parts
 use Rattle.irq_base.specs.declared.shape.Shape.{Shape}
 use Rattle.irq_base.specs.declared.status.Status.{Status}
@@ -20,7 +21,7 @@ use Rattle.tick_reinject.specs.Ticks.{ack_injects, tick_acked, tick_injected, is
 use Rattle.board_model.specs.Registry.{RegistryPart}
 use Rattle.board_model.specs.Routing.{Routing}
 use Rattle.board_model.specs.Chips.{ioapic_of}
-use Rattle.board_model.specs.Board.{Board, part_of, with_part}
+use Rattle.board_model.specs.Board.{Board, part_of, with_part, ValueOf, is_same}
 use Rattle.board_model.specs.Statuses.{Sent, TargetAnswer}
 use Rattle.board_model.specs.Plan.{About, injected, resent, ipi, the_reply, events_of, Plan, done, look, put, tell, answer, choose, change, ◌>>=◌, ◌>>◌}
 use Rattle.board_model.specs.Run.{Wishes, next_wish, later_wishes, Outcome, run, then_run}
@@ -32,7 +33,8 @@ use Rattle.board_ack.specs.Ticks.{inject_tick, inject_next, acknowledge_tick}
 use Rattle.board_ack.specs.Acknowledge.{say_each, signal_each, resample, notify, resample_and_notify, tell_concerned, resend, clear_and_resend, end_level, end_tick, acknowledge, acknowledge_each}
 use Rattle.board_laws.specs.Ticks.{is_ack_of, acks_in}
 use Rattle.board_laws.proofs.ConservingOnce.{injects_before, inject_injects}
-use Rattle.board_laws.proofs.ConservingQuiet.{is_quiet, shows_quietly, Quiet, quiet_bind, accept_pin_quiet, send_quiet, let_go_quiet, inject_quiet}
+use Rattle.board_step.proofs.Walk.{Walk, Holds, of_relation, ended}
+use Rattle.board_laws.proofs.ConservingQuiet.{is_quiet, shows_quietly, AreQuiet, still, inject_quiet, tell_quiet, level_quiet}
 
 -- ---- which events may come
 
@@ -45,11 +47,6 @@ allows rings _ = true
 abbrev pub Allowed : Bool → List Event → Type 0
 Allowed rings [] = Unit {0}
 Allowed rings (event ∷ events) = (allows rings event ≡ true) × Allowed rings events
-
--- the events are quiet
-abbrev AreQuiet : (ℕ → Bool) → List Event → Type 0
-AreQuiet may [] = Unit {0}
-AreQuiet may (event ∷ events) = (is_quiet may event ≡ true) × AreQuiet may events
 
 -- ---- each acknowledge lets one injection come
 
@@ -172,80 +169,9 @@ module _ (tick : ℕ) (rings : Bool) where
       none : (a b : ℕ) → a ≡ 0 → b ≡ 0 → a + b ≡ 0
       none a b e f = omega (arith, e, f)
 
-module _ (may : ℕ → Bool) where
-  quiet_append : (xs ys : List Event) → AreQuiet may xs → AreQuiet may ys → AreQuiet may (xs ++ ys)
-  quiet_append [] ys h later = later
-  quiet_append (x ∷ xs) ys h later = (h.0, quiet_append xs ys h.1 later)
-
-  shown_quiet : (about : About) (sent : Sent) → shows_quietly may about ≡ true → AreQuiet may (events_of about sent)
-  shown_quiet (injected gsi pic) sent h = (h, tt)
-  shown_quiet (resent pin) sent h = (refl, tt)
-  shown_quiet ipi sent h = (refl, tt)
-  shown_quiet (the_reply pic) sent h = tt
-
-  -- what a quiet plan tells is quiet, and the tick state stays
-  run_quiet : {A : Type 0} (m : Plan A) (b : Board) (ws : Wishes) → Quiet may m → ((run m b ws).board.tick ≡ b.tick) × AreQuiet may (run m b ws).log.events
-  run_quiet (done a) b ws h = (refl, tt)
-  run_quiet (look p k) b ws h = run_quiet (k (part_of b p)) b ws (h (part_of b p))
-  run_quiet (put p v rest) b ws h =
-      let later = run_quiet rest (with_part b p v) ws h.1 in
-      (later.0 ∙ part_of-with_other b p parts.Tick v h.0, later.1)
-  run_quiet (tell x rest) b ws h = let later = run_quiet rest b ws h.1 in (later.0, (h.0, later.1))
-  run_quiet (answer r rest) b ws h = run_quiet rest b ws h
-  run_quiet (choose m about g k) b ws h =
-      let s = g (next_wish ws) in
-      let later = run_quiet (k s) b (later_wishes ws) (h.1 s) in
-      (later.0, quiet_append (events_of about s) (run (k s) b (later_wishes ws)).log.events (shown_quiet about s h.0) later.1)
-
-  say_quiet : (events : List Event) → AreQuiet may events → Quiet may (say_each events)
-  say_quiet [] h = tt
-  say_quiet (x ∷ xs) h = (h.0, say_quiet xs h.1)
-
-  resamples_quiet : (counters : List ℕ) → AreQuiet may (map Resampled counters)
-  resamples_quiet [] = tt
-  resamples_quiet (x ∷ xs) = (refl, resamples_quiet xs)
-
-  watches_quiet : (counters : List ℕ) → AreQuiet may (map Watched counters)
-  watches_quiet [] = tt
-  watches_quiet (x ∷ xs) = (refl, watches_quiet xs)
-
-  signal_quiet : (counters : List ℕ) (events : List Event) → AreQuiet may events → Quiet may (signal_each counters events)
-  signal_quiet counters events h = λ counts. (refl, say_quiet events h)
-
-  resample_quiet : (targets : Targets) (gsi : ℕ) (registry : RegistryPart) → Quiet may (resample targets gsi registry)
-  resample_quiet targets gsi registry = elim (has_resampler registry.irqfds gsi) as (λ t. Quiet may (if not t then done tt else (let_go targets Resample >> rest))) [
-    | true ↦ quiet_bind may (λ _. rest) (let_go targets Resample) (let_go_quiet may targets Resample) (λ _. signal_quiet (resampled registry.irqfds gsi) (resample_events registry.irqfds gsi) (resamples_quiet (resampled registry.irqfds gsi)))
-    | false ↦ tt
-  ]
-    where
-      rest : Plan (Unit {0})
-      rest = signal_each (resampled registry.irqfds gsi) (resample_events registry.irqfds gsi)
-
-  concerned_quiet : (routing : Routing) (gsi : ℕ) → Quiet may (resample_and_notify routing gsi)
-  concerned_quiet routing gsi = λ registry counts tick pic ioapic.
-      quiet_bind may (λ _. notify gsi registry) (resample (routing.targets gsi) gsi registry) (resample_quiet (routing.targets gsi) gsi registry)
-      (λ _. signal_quiet (watched registry.watches gsi) (watch_events registry.watches gsi) (watches_quiet (watched registry.watches gsi)))
-
-  tell_quiet : (routing : Routing) (gsi : Option ℕ) → Quiet may (tell_concerned routing gsi)
-  tell_quiet routing None = tt
-  tell_quiet routing (Some gsi) = elim (routing.marked gsi) as (λ t. Quiet may (if t then resample_and_notify routing gsi else done tt)) [ true ↦ concerned_quiet routing gsi | false ↦ tt ]
-
-  pub resend_quiet : (cpus pin : ℕ) (message : Option Message) → Quiet may (resend cpus pin message)
-  resend_quiet cpus pin None = tt
-  resend_quiet cpus pin (Some message) =
-      quiet_bind may (λ answer. accept_pin pin (is_accepted message answer)) (send cpus message None (resent pin)) (send_quiet may (resent pin) refl cpus message None)
-      (λ answer. accept_pin_quiet may pin (is_accepted message answer))
-
-  level_quiet : (cpus : ℕ) (pin : Pin) → Quiet may (end_level cpus pin)
-  level_quiet cpus (pins.Pic pin) = tt
-  level_quiet cpus (pins.Ioapic pin) = λ part. elim ((entry_at (ioapic_of part) pin).level) as (λ t. Quiet may (if t then clear_and_resend cpus pin part else done tt)) [
-    | true ↦ (refl, resend_quiet cpus pin (resend_of (acknowledged (ioapic_of part) pin) pin))
-    | false ↦ tt
-  ]
-
 -- a quiet plan tells no acknowledge
-pub quiet_acks : {A : Type 0} (tick : ℕ) (may : ℕ → Bool) (m : Plan A) (b : Board) (ws : Wishes) → Quiet may m → acks_in tick (run m b ws).log.events ≡ 0
-quiet_acks tick may m b ws h = (quiet_events tick true may (run m b ws).log.events (run_quiet may m b ws h).1).0
+pub quiet_acks : {A : Type 0} (tick : ℕ) (may : ℕ → Bool) (m : Plan A) (b : Board) (ws : Wishes) → Holds (still may) m → acks_in tick (run m b ws).log.events ≡ 0
+quiet_acks tick may m b ws h = (quiet_events tick true may (run m b ws).log.events (h b ws tt).1).0
 
 -- ---- plans that conserve ticks
 
@@ -254,9 +180,9 @@ abbrev pub Conserving : {A : Type 0} → ℕ → Bool → (ℕ → Bool) → ℕ
 Conserving tick rings may taken m = (b : Board) (ws : Wishes) → Conserves tick rings may taken b (run m b ws)
 
 module _ (tick : ℕ) (rings : Bool) (may : ℕ → Bool) where
-  pub quiet_conserving : {A : Type 0} (m : Plan A) → Quiet may m → Conserving tick rings may 0 m
+  pub quiet_conserving : {A : Type 0} (m : Plan A) → Holds (still may) m → Conserving tick rings may 0 m
   quiet_conserving m h = λ b ws.
-      let o = run_quiet may m b ws h in
+      let o = h b ws tt in
       let told = quiet_events tick rings may (run m b ws).log.events o.1 in
       record {
         reinjects = ap (λ (s : TickState). s.reinjects) o.0;
@@ -269,20 +195,20 @@ module _ (tick : ℕ) (rings : Bool) (may : ℕ → Bool) where
       none : (left was acks : ℕ) → left ≡ was → acks ≡ 0 → left ≡ was - (0 + acks)
       none left was acks same never = omega (arith, same, never)
 
-  -- one plan after another
-  pub then_conserves : {A B : Type 0} (i j : ℕ) (f : A → Plan B) (m : Plan A) (b : Board) (ws : Wishes) → Conserves tick rings may i b (run m b ws) → ((a : A) → Conserving tick rings may j (f a)) → Conserves tick rings may (i + j) b (run (m >>= f) b ws)
-  then_conserves {A} {B} i j f m b ws first next =
-      let o = run m b ws in
-      let later = next o.value o.board o.wishes in
+  nothing_conserving : Conserving {A = Unit {0}} tick rings may 0 (done tt)
+  nothing_conserving = quiet_conserving (done tt) (λ b ws fit. (refl, tt))
+
+  -- one outcome after another
+  pub join_conserves : {A B : Type 0} (i j : ℕ) (f : A → Plan B) (b : Board) (o : Outcome A) → Conserves tick rings may i b o → Conserves tick rings may j o.board (run (f o.value) o.board o.wishes) → Conserves tick rings may (i + j) b (then_run o f)
+  join_conserves i j f b o first later =
       let r = run (f o.value) o.board o.wishes in
-      let both : Conserves tick rings may (i + j) b (then_run o f) = record {
+      record {
         reinjects = later.reinjects ∙ first.reinjects;
         pending = λ on. sum r.board.tick.pending o.board.tick.pending b.tick.pending (acks_in tick o.log.events) (acks_in tick r.log.events) (acks_in tick (o.log.events ++ r.log.events)) (later.pending (first.reinjects ∙ on)) (first.pending on) (acks_append tick o.log.events r.log.events);
         stays = λ off. later.stays (first.reinjects ∙ off) ∙ first.stays off;
         allowed = allowed_append tick rings o.log.events r.log.events first.allowed later.allowed;
         singly = singly_append tick may false o.log.events r.log.events first.singly later.singly;
-      } in
-      subst (λ (q : Outcome B). Conserves tick rings may (i + j) b q) (sym (run-bind f m b ws)) both
+      }
     where
       sum : (last mid was k l all : ℕ) → last ≡ mid - (j + l) → mid ≡ was - (i + k) → all ≡ k + l → last ≡ was - (i + j + all)
       sum last mid was k l all e f g = omega (arith, e, f, g)
@@ -290,7 +216,8 @@ module _ (tick : ℕ) (rings : Bool) (may : ℕ → Bool) where
   -- the first of two takes none
   pub bind_conserving : {A B : Type 0} (taken : ℕ) (f : A → Plan B) (m : Plan A) → Conserving tick rings may 0 m → ((a : A) → Conserving tick rings may taken (f a)) → Conserving tick rings may taken (m >>= f)
   bind_conserving {A} {B} taken f m first next = λ b ws.
-      let r = then_conserves 0 taken f m b ws (first b ws) next in
+      let o = run m b ws in
+      let r = subst (λ (q : Outcome B). Conserves tick rings may (0 + taken) b q) (sym (run-bind f m b ws)) (join_conserves 0 taken f b o (first b ws) (next o.value o.board o.wishes)) in
       record { reinjects = r.reinjects; pending = λ on. same (run (m >>= f) b ws).board.tick.pending b.tick.pending (acks_in tick (run (m >>= f) b ws).log.events) (r.pending on); stays = r.stays; allowed = r.allowed; singly = r.singly }
     where
       same : (left was acks : ℕ) → left ≡ was - (0 + taken + acks) → left ≡ was - (taken + acks)
@@ -310,6 +237,30 @@ module _ (tick : ℕ) (rings : Bool) (may : ℕ → Bool) where
     where
       sum : (last mid was acks : ℕ) → last ≡ mid - (0 + acks) → mid ≡ was - taken → last ≡ was - (taken + acks)
       sum last mid was acks e f = omega (arith, e, f)
+
+-- a write of another part
+pub puts_conserve : {A : Type 0} (tick : ℕ) (rings : Bool) (may : ℕ → Bool) (p : Part) (v : ValueOf p) (b : Board) (o : Outcome A) → is_same p parts.Tick ≡ false → Conserves tick rings may 0 (with_part b p v) o → Conserves tick rings may 0 b o
+puts_conserve tick rings may p v b o other r =
+    let same = part_of-with_other b p parts.Tick v other in
+    record {
+      reinjects = r.reinjects ∙ ap (λ (s : TickState). s.reinjects) same;
+      pending = λ on. r.pending (ap (λ (s : TickState). s.reinjects) same ∙ on) ∙ ap (λ (s : TickState). s.pending - (0 + acks_in tick o.log.events)) same;
+      stays = λ off. r.stays (ap (λ (s : TickState). s.reinjects) same ∙ off) ∙ same;
+      allowed = r.allowed;
+      singly = r.singly;
+    }
+
+-- what takes no tick but by the acknowledges that it tells
+abbrev pub conserving : ℕ → Bool → (ℕ → Bool) → Walk
+conserving tick rings may = of_relation (record {
+  Good = λ b o. Conserves tick rings may 0 b o;
+  Fit = λ b. Unit {0};
+  May = λ b p v. is_same p parts.Tick ≡ false;
+  starts = λ a b ws fit. quiet_conserving tick rings may (done a) (ended (still may) a) b ws;
+  puts = λ p v b o fit other h. puts_conserve tick rings may p v b o other h;
+  fits = λ p v b fit other. tt;
+  joins = λ f b o fit h next. join_conserves tick rings may 0 0 f b o h (next tt);
+})
 
 tick_injected_same : (s : TickState) (status : Status) → ((tick_injected s status).reinjects ≡ s.reinjects) × ((tick_injected s status).pending ≡ s.pending)
 tick_injected_same s status = elim s.reinjects as (λ t. ((if t then record s { free = is_ignored status } else s).reinjects ≡ s.reinjects) × ((if t then record s { free = is_ignored status } else s).pending ≡ s.pending)) [ true ↦ (refl, refl) | false ↦ (refl, refl) ]
@@ -335,24 +286,24 @@ module _ (routing : Routing) (shape : Shape) (rings : Bool) where
       bind_conserving shape.tick rings may 0 (λ status. change parts.Tick (λ tick. tick_injected tick status)) (inject shape.cpus (routing.targets shape.tick) TickSource about)
       (quiet_conserving shape.tick rings may (inject shape.cpus (routing.targets shape.tick) TickSource about) (inject_quiet may shape.cpus (routing.targets shape.tick) TickSource about there))
       (λ status b ws. let same = tick_injected_same b.tick status in
-      put_conserves shape.tick rings may 0 (done tt) b (tick_injected b.tick status) ws same.0 (tick_injected_stays b.tick status) (λ _. none same.1) (quiet_conserving shape.tick rings may (done tt) tt))
+      put_conserves shape.tick rings may 0 (done tt) b (tick_injected b.tick status) ws same.0 (tick_injected_stays b.tick status) (λ _. none same.1) (nothing_conserving shape.tick rings may))
     where
       none : {a b : ℕ} → a ≡ b → a ≡ b - 0
       none e = omega (arith, e)
 
   next_conserving : (may : ℕ → Bool) (injects : Bool) → may shape.tick ≡ true → Conserving shape.tick rings may 0 (inject_next routing shape injects)
   next_conserving may true h = tick_conserving may (λ pic. injected shape.tick pic) (λ _. h)
-  next_conserving may false h = quiet_conserving shape.tick rings may (done tt) tt
+  next_conserving may false h = nothing_conserving shape.tick rings may
 
   -- ---- an acknowledge
 
   -- its last step takes a tick where the acknowledge that was told is of the tick's GSI
   end_tick_conserving : (pin : Pin) (gsi : Option ℕ) → Conserving shape.tick rings (λ _. true) (is_ack_of shape.tick (Acked pin gsi)) (end_tick routing shape gsi)
-  end_tick_conserving pin None = quiet_conserving shape.tick rings (λ _. true) (done tt) tt
+  end_tick_conserving pin None = nothing_conserving shape.tick rings (λ _. true)
   end_tick_conserving pin (Some gsi) = elim (nat_eq gsi shape.tick) as (λ t. Conserving shape.tick rings (λ _. true) (if t then 1 else 0) (if t then acknowledge_tick routing shape else done tt)) [
     | true ↦ λ b ws. put_conserves shape.tick rings (λ _. true) 1 (inject_next routing shape (ack_injects b.tick)) b (tick_acked b.tick) ws (tick_acked_same b.tick) (tick_acked_stays b.tick) (tick_acked_less b.tick)
         (next_conserving (λ _. true) (ack_injects b.tick) refl)
-    | false ↦ quiet_conserving shape.tick rings (λ _. true) (done tt) tt
+    | false ↦ nothing_conserving shape.tick rings (λ _. true)
   ]
 
   -- ---- after its acknowledge the tick is injected once at most
@@ -361,11 +312,11 @@ module _ (routing : Routing) (shape : Shape) (rings : Bool) where
   abbrev DueSingly : {A : Type 0} → (ℕ → Bool) → Bool → Plan A → Type 0
   DueSingly may due m = (b : Board) (ws : Wishes) → Singly shape.tick may due (run m b ws).log.events
 
-  silent_then : {A B : Type 0} (may : ℕ → Bool) (due : Bool) (f : A → Plan B) (m : Plan A) → Quiet (λ _. false) m → ((a : A) → DueSingly may due (f a)) → DueSingly may due (m >>= f)
+  silent_then : {A B : Type 0} (may : ℕ → Bool) (due : Bool) (f : A → Plan B) (m : Plan A) → Holds (still (λ _. false)) m → ((a : A) → DueSingly may due (f a)) → DueSingly may due (m >>= f)
   silent_then {A} {B} may due f m quiet next = λ b ws.
       let o = run m b ws in
       subst (λ (q : Outcome B). Singly shape.tick may due q.log.events) (sym (run-bind f m b ws))
-      (silent_singly shape.tick may due o.log.events (run (f o.value) o.board o.wishes).log.events (run_quiet (λ _. false) m b ws quiet).1 (next o.value o.board o.wishes))
+      (silent_singly shape.tick may due o.log.events (run (f o.value) o.board o.wishes).log.events (quiet b ws tt).1 (next o.value o.board o.wishes))
 
   inject_singly : (may : ℕ → Bool) → DueSingly may true (inject_tick routing shape (λ pic. injected shape.tick pic))
   inject_singly may = λ b ws.
@@ -410,5 +361,5 @@ module _ (routing : Routing) (shape : Shape) (rings : Bool) where
       same left was taken acks e = omega (arith, e)
 
   pub each_conserving : (may : ℕ → Bool) (list : List Pin) → Conserving shape.tick rings may 0 (acknowledge_each routing shape list)
-  each_conserving may [] = quiet_conserving shape.tick rings may (done tt) tt
+  each_conserving may [] = nothing_conserving shape.tick rings may
   each_conserving may (pin ∷ list) = bind_conserving shape.tick rings may 0 (λ _. acknowledge_each routing shape list) (acknowledge routing shape pin) (acknowledge_conserving may pin) (λ _. each_conserving may list)

@@ -1,4 +1,4 @@
--- A quiet plan leaves the tick state, acknowledges no pin, rings no ioeventfd, and injects on certain GSIs alone: so are sendings and signals.
+-- What leaves the tick state, acknowledges no pin, rings no ioeventfd, and injects on certain GSIs alone: so are signals.
 use Rattle.std.proofs.Common.{◌≡◌, ℕ, Bool, true, false, not, if◌then◌else◌, List, [], ◌∷◌, refl, Some, None}
 use Rattle.std.specs.declared.option.Option.{Option}
 use Rattle.std.specs.FinSet as set
@@ -27,6 +27,23 @@ use Rattle.board_model.specs.Following.{reached}
 use Rattle.board_raise.specs.Named.{Processor, named_by, numbers_of}
 use Rattle.board_raise.specs.Send.{show, ignore, reached_by, see_each, is_illegal, accept_each, deliver, refuse_vector, send_to, send}
 use Rattle.board_raise.specs.Signal.{raise_pic, answer_shown, ioapic_answered, accept_pin, is_accepted, raise_other, raise, let_go_pic, let_go_ioapic, let_go, lower, let_go_after, inject}
+use Rattle.std.proofs.Common.{◌++◌, map, ◌∙◌}
+use Rattle.irq_base.specs.Counts.{signalled_all}
+use Rattle.irq_base.specs.declared.event.Event.TheVariants.{Resampled, Watched}
+use Rattle.irq_base.specs.declared.event.Pin.{Pin}
+use Rattle.irq_base.specs.declared.shape.Part.TheVariants as parts
+use Rattle.resampler.specs.Resample.{resampled, resample_events}
+use Rattle.ack_notifiers.specs.Rows.{watched, watch_events}
+use Rattle.board_model.specs.Board.{with_part}
+use Rattle.board_model.specs.Plan.{events_of, change}
+use Rattle.board_model.specs.Routing.{Routing}
+use Rattle.board_model.specs.Run.{next_wish, later_wishes, run}
+use Rattle.board_model.proofs.Lens.{part_of-with_other}
+use Rattle.board_ack.specs.Acknowledge.{say_each, signal_each, tell_concerned, end_level}
+use Rattle.board_step.proofs.Walk.{Walk, Holds, of_relation, after, changed}
+use Rattle.board_step.proofs.WalkSignals.{Shows, Signals, inject_holds}
+use Rattle.board_step.proofs.WalkAcks.{Tells, tell_holds, end_level_holds}
+use Rattle.board_step.proofs.WalkOpen.{Open, open_signals, open_raise}
 
 -- ---- quiet plans
 
@@ -42,126 +59,83 @@ abbrev pub shows_quietly : (ℕ → Bool) → About → Bool
 shows_quietly may (injected gsi pic) = may gsi
 shows_quietly may _ = true
 
--- a plan tells such events alone, and never writes the tick state
-abbrev pub Quiet : {A : Type 0} → (ℕ → Bool) → Plan A → Type 0
-Quiet may (done a) = Unit {0}
-Quiet may (look p k) = (v : ValueOf p) → Quiet may (k v)
-Quiet may (put p v rest) = (is_same p Tick ≡ false) × Quiet may rest
-Quiet may (tell x rest) = (is_quiet may x ≡ true) × Quiet may rest
-Quiet may (answer r rest) = Quiet may rest
-Quiet may (choose m about g k) = (shows_quietly may about ≡ true) × ((s : Sent) → Quiet may (k s))
+-- all of them are
+abbrev pub AreQuiet : (ℕ → Bool) → List Event → Type 0
+AreQuiet may [] = Unit {0}
+AreQuiet may (event ∷ events) = (is_quiet may event ≡ true) × AreQuiet may events
 
 module _ (may : ℕ → Bool) where
-  -- a plan and then another
-  pub quiet_bind : {A B : Type 0} (f : A → Plan B) (m : Plan A) → Quiet may m → ((a : A) → Quiet may (f a)) → Quiet may (m >>= f)
-  quiet_bind f (done a) h next = next a
-  quiet_bind f (look p k) h next = λ v. quiet_bind f (k v) (h v) next
-  quiet_bind f (put p v rest) h next = (h.0, quiet_bind f rest h.1 next)
-  quiet_bind f (tell x rest) h next = (h.0, quiet_bind f rest h.1 next)
-  quiet_bind f (answer r rest) h next = quiet_bind f rest h next
-  quiet_bind f (choose m about g k) h next = (h.0, λ s. quiet_bind f (k s) (h.1 s) next)
+  pub quiet_append : (xs ys : List Event) → AreQuiet may xs → AreQuiet may ys → AreQuiet may (xs ++ ys)
+  quiet_append [] ys h later = later
+  quiet_append (x ∷ xs) ys h later = (h.0, quiet_append xs ys h.1 later)
 
-  -- ---- a sending
+  -- what is told is so, and the tick state stays
+  abbrev pub still : Walk
+  still = of_relation (record {
+    Good = λ b o. (o.board.tick ≡ b.tick) × AreQuiet may o.log.events;
+    Fit = λ b. Unit {0};
+    May = λ b p v. is_same p Tick ≡ false;
+    starts = λ a b ws fit. (refl, tt);
+    puts = λ p v b o fit other h. (h.0 ∙ part_of-with_other b p Tick v other, h.1);
+    fits = λ p v b fit other. tt;
+    joins = λ f b o fit h next. let k = next tt in (k.0 ∙ h.0, quiet_append o.log.events _ h.1 k.1);
+  })
 
-  pub accept_pin_quiet : (pin : ℕ) (t : Bool) → Quiet may (accept_pin pin t)
-  accept_pin_quiet pin true = λ v. (refl, tt)
-  accept_pin_quiet pin false = tt
+  pub still_open : Open still
+  still_open = record { counters = λ v b fit. refl; pic = λ v b fit. refl; ioapic = λ v b fit. refl; lapic = λ n v b fit. refl }
 
-  see_quiet : (ns : List ℕ) → Quiet may (see_each ns)
-  see_quiet [] = tt
-  see_quiet (n ∷ ns) = λ v. quiet_bind (λ rest. done (record { number = n; apic = v } ∷ rest)) (see_each ns) (see_quiet ns) (λ _. tt)
+  pub still_signals : (cpus : ℕ) → Signals still cpus
+  still_signals cpus = open_signals still still_open cpus
 
-  accept_quiet : (message : Message) (takers : Numbers) (ps : List Processor) → Quiet may (accept_each message takers ps)
-  accept_quiet message takers [] = tt
-  accept_quiet message takers (p ∷ ps) = elim (set.contains takers p.number) as (λ t. Quiet may (if t then put (Lapic p.number) (accepted p.apic message) (accept_each message takers ps) else accept_each message takers ps)) [
-    | true ↦ (refl, accept_quiet message takers ps)
-    | false ↦ accept_quiet message takers ps
-  ]
+  sent_quiet : (about : About) (sent : Sent) → shows_quietly may about ≡ true → AreQuiet may (events_of about sent)
+  sent_quiet (injected gsi pic) sent h = (h, tt)
+  sent_quiet (resent pin) sent h = (refl, tt)
+  sent_quiet ipi sent h = (refl, tt)
+  sent_quiet (the_reply pic) sent h = tt
 
-  module _ (about : About) (there : shows_quietly may about ≡ true) where
-    show_quiet : (other : Option TargetAnswer) → Quiet may (show about other)
-    show_quiet other = of_about about there
-      where
-        of_about : (about : About) → shows_quietly may about ≡ true → Quiet may (show about other)
-        of_about (injected gsi pic) there = (there, tt)
-        of_about (resent pin) there = (refl, tt)
-        of_about ipi there = (refl, tt)
-        of_about (the_reply pic) there = tt
+  shown_quiet : (about : About) (other : Option TargetAnswer) → shows_quietly may about ≡ true → Holds still (show about other)
+  shown_quiet (injected gsi pic) other h = λ b ws fit. (refl, (h, tt))
+  shown_quiet (resent pin) other h = λ b ws fit. (refl, (refl, tt))
+  shown_quiet ipi other h = λ b ws fit. (refl, (refl, tt))
+  shown_quiet (the_reply pic) other h = λ b ws fit. (refl, tt)
 
-    ignore_quiet : (cause : Cause) → Quiet may (ignore about cause)
-    ignore_quiet cause = quiet_bind (λ _. done (no_effect cause)) (show about (Some (no_effect cause))) (show_quiet (Some (no_effect cause))) (λ _. tt)
+  pub still_shows : (about : About) → shows_quietly may about ≡ true → Shows still about
+  still_shows about there = record {
+    shown = λ other. shown_quiet about other there;
+    chosen = λ m g k h b ws fit.
+        let s = g (next_wish ws) in
+        let later = h s b (later_wishes ws) tt in
+        (later.0, quiet_append (events_of about s) (run (k s) b (later_wishes ws)).log.events (sent_quiet about s there) later.1);
+  }
 
-    module _ (message : Message) (from : Option (ℕ × Shorthand)) (processors : List Processor) where
-      deliver_quiet : (named : List Processor) → Quiet may (deliver message from about processors named)
-      deliver_quiet named = (there, λ sent. quiet_bind (λ _. done (message_answer sent)) (accept_each message (reached sent) processors) (accept_quiet message (reached sent) processors) (λ _. tt))
+  pub inject_quiet : (cpus : ℕ) (targets : Targets) (source : Source) (about : Option TargetAnswer → About) → ((pic : Option TargetAnswer) → shows_quietly may (about pic) ≡ true) → Holds still (inject cpus targets source about)
+  inject_quiet cpus targets source about there = inject_holds still cpus (still_signals cpus) targets source (open_raise still still_open targets source) about (λ pic. still_shows (about pic) (there pic))
 
-      send_to_quiet : (named : List Processor) → Quiet may (send_to message from about processors named)
-      send_to_quiet [] = ignore_quiet NoProcessor
-      send_to_quiet (p ∷ ps) = elim (is_illegal message) as (λ t. Quiet may (if t then refuse_vector message about processors (p ∷ ps) else deliver message from about processors (p ∷ ps))) [
-        | true ↦ quiet_bind (λ _. ignore about BadVector) (accept_each message (numbers_of (p ∷ ps)) processors) (accept_quiet message (numbers_of (p ∷ ps)) processors) (λ _. ignore_quiet BadVector)
-        | false ↦ deliver_quiet (p ∷ ps)
-      ]
+  -- ---- parts of an acknowledge
 
-    pub send_quiet : (cpus : ℕ) (message : Message) (from : Option (ℕ × Shorthand)) → Quiet may (send cpus message from about)
-    send_quiet cpus message from = elim (is_taken message.mode) as (λ t. Quiet may (if not t then ignore about BadMode else (see_each (reached_by message from cpus) >>= f))) [
-      | true ↦ quiet_bind f (see_each (reached_by message from cpus)) (see_quiet (reached_by message from cpus)) (λ ps. send_to_quiet message from ps (named_by message from ps))
-      | false ↦ ignore_quiet BadMode
-    ]
-      where
-        f : List Processor → Plan TargetAnswer
-        f processors = send_to message from about processors (named_by message from processors)
+  say_quiet : (events : List Event) → AreQuiet may events → Holds still (say_each events)
+  say_quiet [] h = λ b ws fit. (refl, tt)
+  say_quiet (x ∷ xs) h = λ b ws fit. let later = say_quiet xs h.1 b ws tt in (later.0, (h.0, later.1))
 
-    -- ---- the pins
+  resamples_quiet : (counters : List ℕ) → AreQuiet may (map Resampled counters)
+  resamples_quiet [] = tt
+  resamples_quiet (x ∷ xs) = (refl, resamples_quiet xs)
 
-    shown_quiet : (other : Option TargetAnswer) → Quiet may (answer_shown about other)
-    shown_quiet other = quiet_bind (λ _. done other) (show about other) (show_quiet other) (λ _. tt)
+  watches_quiet : (counters : List ℕ) → AreQuiet may (map Watched counters)
+  watches_quiet [] = tt
+  watches_quiet (x ∷ xs) = (refl, watches_quiet xs)
 
-    answered_quiet : (cpus pin : ℕ) (answer : Raise) → Quiet may (ioapic_answered cpus pin about answer)
-    answered_quiet cpus pin raises.Masked = shown_quiet (Some (no_effect Masked))
-    answered_quiet cpus pin raises.Stood = shown_quiet (Some stood_already)
-    answered_quiet cpus pin (raises.Send message) =
-        quiet_bind (λ answer. accept_pin pin (is_accepted message answer) >> done (Some answer)) (send cpus message None about) (send_quiet cpus message None)
-        (λ answer. quiet_bind (λ _. done (Some answer)) (accept_pin pin (is_accepted message answer)) (accept_pin_quiet pin (is_accepted message answer)) (λ _. tt))
+  signal_quiet : (counters : List ℕ) (events : List Event) → AreQuiet may events → Holds still (signal_each counters events)
+  signal_quiet counters events h = after still (change parts.Counters (λ counts. signalled_all counts counters)) (say_each events) (changed still parts.Counters (λ counts. signalled_all counts counters) (λ b fit. refl)) (say_quiet events h)
 
-    other_quiet : (cpus : ℕ) (ioapic : Option ℕ) (msi : Option MsiWord) (source : Source) → Quiet may (raise_other cpus ioapic msi source about)
-    other_quiet cpus (Some pin) msi source = λ part. (refl, answered_quiet cpus pin (raise_of (ioapic_of part) pin))
-    other_quiet cpus None (Some word) source =
-        quiet_bind (λ answer. done (Some answer)) (send cpus (message_in word.address word.payload) None about) (send_quiet cpus (message_in word.address word.payload) None) (λ _. tt)
-    other_quiet cpus None None source = shown_quiet None
+  tells : Tells still
+  tells = record {
+    resamples = λ registry gsi seen. signal_quiet (resampled registry.irqfds gsi) (resample_events registry.irqfds gsi) (resamples_quiet (resampled registry.irqfds gsi));
+    notifies = λ registry gsi seen. signal_quiet (watched registry.watches gsi) (watch_events registry.watches gsi) (watches_quiet (watched registry.watches gsi));
+  }
 
-  -- ---- signals
+  pub tell_quiet : (routing : Routing) (gsi : Option ℕ) → Holds still (tell_concerned routing gsi)
+  tell_quiet routing gsi = tell_holds still routing 0 (still_signals 0) tells gsi
 
-  let_go_pic_quiet : (pin : Option ℕ) (source : Source) → Quiet may (let_go_pic pin source)
-  let_go_pic_quiet None source = tt
-  let_go_pic_quiet (Some pin) source = λ v. (refl, tt)
-
-  let_go_ioapic_quiet : (pin : Option ℕ) (source : Source) → Quiet may (let_go_ioapic pin source)
-  let_go_ioapic_quiet None source = tt
-  let_go_ioapic_quiet (Some pin) source = λ v. (refl, tt)
-
-  pub let_go_quiet : (targets : Targets) (source : Source) → Quiet may (let_go targets source)
-  let_go_quiet targets source = quiet_bind (λ _. let_go_ioapic targets.ioapic source) (let_go_pic targets.pic source) (let_go_pic_quiet targets.pic source) (λ _. let_go_ioapic_quiet targets.ioapic source)
-
-  pub lower_quiet : (targets : Targets) (source : Source) → Quiet may (lower targets source)
-  lower_quiet targets source = quiet_bind _ (let_go targets source) (let_go_quiet targets source) (λ _. tt)
-
-  let_go_after_quiet : (targets : Targets) (source : Source) → Quiet may (let_go_after targets source)
-  let_go_after_quiet targets Resample = tt
-  let_go_after_quiet targets (Line n) = let_go_quiet targets (Line n)
-  let_go_after_quiet targets Pulse = let_go_quiet targets Pulse
-  let_go_after_quiet targets TickSource = let_go_quiet targets TickSource
-
-  raise_pic_quiet : (pin : Option ℕ) (source : Source) → Quiet may (raise_pic pin source)
-  raise_pic_quiet None source = tt
-  raise_pic_quiet (Some pin) source = λ v. (refl, tt)
-
-  module _ (cpus : ℕ) (targets : Targets) (source : Source) (about : Option TargetAnswer → About) (there : (pic : Option TargetAnswer) → shows_quietly may (about pic) ≡ true) where
-    pub raise_quiet : Quiet may (raise cpus targets source about)
-    raise_quiet =
-        quiet_bind (λ pic. raise_other cpus targets.ioapic targets.msi source (about pic) >>= (λ other. done (status_of pic other nobody))) (raise_pic targets.pic source) (raise_pic_quiet targets.pic source)
-        (λ pic. quiet_bind (λ other. done (status_of pic other nobody)) (raise_other cpus targets.ioapic targets.msi source (about pic)) (other_quiet (about pic) (there pic) cpus targets.ioapic targets.msi source) (λ _. tt))
-
-    pub inject_quiet : Quiet may (inject cpus targets source about)
-    inject_quiet =
-        quiet_bind (λ status. let_go_after targets source >> done status) (raise cpus targets source about) raise_quiet
-        (λ status. quiet_bind (λ _. done status) (let_go_after targets source) (let_go_after_quiet targets source) (λ _. tt))
+  pub level_quiet : (cpus : ℕ) (pin : Pin) → Holds still (end_level cpus pin)
+  level_quiet cpus pin = end_level_holds still cpus (still_signals cpus) (λ pin. still_shows (resent pin) refl) (λ pin b fit. refl) pin

@@ -198,7 +198,7 @@ module _ (counter : ℕ) (b : Board) (ws : Wishes) where
   rung_tells None rang = absurd (no_member (Rang counter) rang)
   rung_tells (Some k) rang = elim (first_or_later (Rang k) (Rang counter) (run after b ws).log.events rang) [
     | inl is ↦ let same : k ≡ counter = cc in ap Some same
-    | inr later ↦ absurd (none_rang (run after b ws).log.events (quiet_conserving b.shape.tick false (λ _. true) after (rung_quiet (λ _. true) routing b.shape k (routing.trigger k) (λ _. refl)) b ws).allowed later)
+    | inr later ↦ absurd (none_rang (run after b ws).log.events (quiet_conserving b.shape.tick false (λ _. true) after (rung_quiet (λ _. true) routing b.shape k (λ _. refl)) b ws).allowed later)
   ]
     where
       after : Plan (Unit {0})

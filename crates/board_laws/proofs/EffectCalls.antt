@@ -34,14 +34,15 @@ use Rattle.board_model.specs.Run.{Wishes, Outcome, run}
 use Rattle.board_raise.specs.Send.{send}
 use Rattle.board_raise.specs.Signal.{pic_raised, pic_answer, ioapic_raised, is_accepted, accept_pin, ioapic_answered, raise_other, raise, let_go_pic, let_go_ioapic, let_go, let_go_after, lowered_status, lower, inject}
 use Rattle.board_raise.specs.Laws.{HasProcessors}
-use Rattle.board_step.specs.Refusals.{range_reasons, write_reasons}
+use Rattle.board_step.specs.Refusals.{range_reasons}
 use Rattle.board_step.specs.Registrations.{unless_refused, source_of, trigger_written, write}
 use Rattle.board_step.specs.Ticks.{tick_or_hold}
 use Rattle.board_step.specs.Calls.{number_of, plan_in_range}
 use Rattle.board_step.specs.Step.{plan_on, outcome_of, with_counts, would_publish}
 use Rattle.board_laws.specs.Effect.{message_target, signal_targets, message_raised, pic_answer_on, raise_answer_on, IsSaidOf, is_without_effect, ChangesNoRequest, CoalescedAndIgnoredChangeNoRequest}
 use Rattle.board_laws.proofs.EffectStood.{raise_stood, raised_stood}
-use Rattle.board_laws.proofs.EffectMute.{Mute, unless_mute, call_mute, some_status, mute_answers}
+use Rattle.board_step.proofs.Walk.{Holds}
+use Rattle.board_laws.proofs.EffectMute.{mute, count_mute, call_mute, some_status}
 use Rattle.board_laws.proofs.EffectSends.{Spares, spares_bind, Says, says_before, says_after, shown_says, send_says}
 
 -- ---- plans that leave the requests
@@ -169,7 +170,7 @@ module _ (b : Board) (stand : HasProcessors b b.shape.cpus) where
   }
 
   write_judged : (counter count : ℕ) (trigger : Option TriggerWord) → routing.trigger counter ≡ trigger → (ws : Wishes) → Judged (calls.Write counter count) (run (write routing b.shape trigger counter count) b ws)
-  write_judged counter count None is ws = inr (mute_answers (write routing b.shape None counter count) b ws (λ counts. unless_mute (write_reasons counts counter count) _ (refl, tt)))
+  write_judged counter count None is ws = inr (count_mute routing b.shape counter count b ws tt)
   write_judged counter count (Some trigger) is ws = elim (nat_eq count 0) as (λ t. Judged (calls.Write counter count) (run (if t then reply Done else trigger_written routing b.shape trigger) b ws)) [
     | true ↦ inr refl
     | false ↦ inl (record {
@@ -189,8 +190,8 @@ module _ (b : Board) (stand : HasProcessors b b.shape.cpus) where
   })
   tick_judged false ws = inr refl
 
-  mute_judged : (n : ℕ) (call : Call) (ws : Wishes) → Mute (plan_in_range routing b.shape n call) → Judged call (run (plan_in_range routing b.shape n call) b ws)
-  mute_judged n call ws h = inr (mute_answers (plan_in_range routing b.shape n call) b ws h)
+  mute_judged : (n : ℕ) (call : Call) (ws : Wishes) → Holds mute (plan_in_range routing b.shape n call) → Judged call (run (plan_in_range routing b.shape n call) b ws)
+  mute_judged n call ws h = inr (h b ws tt)
 
   range_judged : (n : ℕ) (call : Call) (ws : Wishes) → Judged call (run (plan_in_range routing b.shape n call) b ws)
   range_judged n (calls.Line gsi line high) ws = inl (line_judged gsi line high n ws)

@@ -1,5 +1,5 @@
 -- What plans leave whose acknowledges resample: the counts that their events tell, and no pin more for Resample.
-use Rattle.std.proofs.Common.{◌≡◌, ℕ, Bool, true, false, cond, if◌then◌else◌, List, [], ◌∷◌, ◌++◌, map, Some, None, refl, sym, ap, subst, ◌∙◌, append_assoc}
+use Rattle.std.proofs.Common.{◌≡◌, ℕ, Bool, true, false, cond, List, [], ◌∷◌, ◌++◌, map, Some, None, refl, sym, ap, subst, ◌∙◌, append_assoc}
 use Rattle.std.specs.declared.option.Option.{Option}
 use Rattle.std.specs.Cmp.{unsigned_Decides}
 use Rattle.std.specs.FinMap as fin_map
@@ -21,13 +21,13 @@ use Rattle.route_table.specs.Rows.{Table, is_same, targets_of}
 use Rattle.route_table.specs.Pins.{has_pin, gsi_of}
 use Rattle.board_model.specs.Registry.{RegistryPart}
 use Rattle.board_model.specs.Board.{Board, with_part}
-use Rattle.board_model.specs.Plan.{Plan, ◌>>=◌, ◌>>◌}
+use Rattle.board_model.specs.Plan.{Plan, ◌>>◌}
 use Rattle.board_model.specs.Run.{Wishes, Outcome, then_run, run}
-use Rattle.board_model.proofs.Sequence.{run-bind}
 use Rattle.board_raise.specs.Signal.{let_go_pic, let_go_ioapic}
 use Rattle.board_ack.specs.Acknowledge.{say_each, signal_each}
 use Rattle.board_laws.specs.Resampling.{counter_told, counters_told, IsReleased}
-use Rattle.board_laws.proofs.ResamplingPlans.{Care, Unheld, AreQuiet, Minds, Leaves, leaves, gone}
+use Rattle.board_step.proofs.Walk.{Holds as HoldsOf}
+use Rattle.board_laws.proofs.ResamplingPlans.{gone, NoMore, no_more, AreQuiet, Leaves, left}
 
 -- ---- the pins of a GSI
 
@@ -49,13 +49,6 @@ same_number None n e = cc
 same_number (Some m) n e = ap Some ((unsigned_Decides m n).0 e)
 
 -- ---- what an outcome tells
-
--- Resample holds no pin more
-abbrev pub NoMore : Holds → Holds → Type 0
-NoMore old new = Unheld (λ n. set.contains old (hold n Resample) ≡ false) new
-
-pub no_more : (a b c : Holds) → NoMore a b → NoMore b c → NoMore a c
-no_more a b c one two = λ n free. two n (one n free)
 
 module _ (r : RegistryPart) where
   -- after the Acked of a GSI with resamplers comes a Resampled for each of them, and on the last board Resample holds no pin
@@ -120,10 +113,9 @@ module _ (r : RegistryPart) where
       two ∙ ap (λ l. signalled_all l (counters_told ys)) one ∙ sym (fold-append signalled start (counters_told xs) (counters_told ys)) ∙ ap (signalled_all start) (sym (told_both xs ys))
 
   -- what an outcome does, and then the plan of its value
-  pub then_does : {A B : Type 0} (b : Board) (o : Outcome A) (f : A → Plan B) → Does b o → Acks (f o.value) → Does b (then_run o f)
-  then_does {A} {B} b o f one next =
+  pub then_does : {A B : Type 0} (b : Board) (o : Outcome A) (f : A → Plan B) → Does b o → Does o.board (run (f o.value) o.board o.wishes) → Does b (then_run o f)
+  then_does {A} {B} b o f one two =
       let last : Outcome B = run (f o.value) o.board o.wishes in
-      let two : Does o.board last = next o.board o.wishes one.registry in
       record {
         registry = two.registry;
         counts = counts_both b.counters o.board.counters last.board.counters o.log.events last.log.events one.counts two.counts;
@@ -131,19 +123,6 @@ module _ (r : RegistryPart) where
         ioapic = no_more b.ioapic.holds o.board.ioapic.holds last.board.ioapic.holds one.ioapic two.ioapic;
         follows = follow_both o.board last.board two.pic two.ioapic o.log.events last.log.events one.follows two.follows;
       }
-
-  pub does_bind : {A B : Type 0} (f : A → Plan B) (m : Plan A) (b : Board) (ws : Wishes) → Does b (run m b ws) → ((a : A) → Acks (f a)) → Does b (run (m >>= f) b ws)
-  does_bind {A} {B} f m b ws h next = subst (λ (o : Outcome B). Does b o) (sym (run-bind f m b ws)) (then_does b (run m b ws) f h (next (run m b ws).value))
-
-  pub acks_bind : {A B : Type 0} (f : A → Plan B) (m : Plan A) → Acks m → ((a : A) → Acks (f a)) → Acks (m >>= f)
-  acks_bind f m h next = λ b ws is. does_bind f m b ws (h b ws is) next
-
-  pub acks_then : {A B : Type 0} (m : Plan A) (n : Plan B) → Acks m → Acks n → Acks (m >> n)
-  acks_then m n h next = acks_bind (λ _. n) m h (λ _. next)
-
-  pub acks_if : {A : Type 0} (t : Bool) (m n : Plan A) → Acks m → Acks n → Acks (if t then m else n)
-  acks_if true m n h k = h
-  acks_if false m n h k = k
 
   -- ---- a plan without an acknowledge
 
@@ -167,30 +146,15 @@ module _ (r : RegistryPart) where
   quiet_follows last (Resent pin status ∷ events) quiet = (tt, quiet_follows last events quiet.1)
   quiet_follows last (Ipi status ∷ events) quiet = (tt, quiet_follows last events quiet.1)
 
-  -- what stands on a board
-  abbrev standing : Board → Care
-  standing b = record {
-    pic = λ n. set.contains b.pic.holds (hold n Resample) ≡ false;
-    ioapic = λ n. set.contains b.ioapic.holds (hold n Resample) ≡ false;
-    registry = λ v. v ≡ r;
-    counters = λ v. v ≡ b.counters;
-  }
-
-  left : {A : Type 0} (m : Plan A) → ((w : Care) → Minds w m) → (b : Board) (ws : Wishes) → b.registry ≡ r → Leaves (standing b) (run m b ws)
-  left m minds b ws is = leaves (standing b) m b ws (minds (standing b)) (record { registry = is; counters = refl; pic = λ n free. free; ioapic = λ n free. free })
-
-  pub quiet_events : {A : Type 0} (m : Plan A) → ((w : Care) → Minds w m) → (b : Board) (ws : Wishes) → b.registry ≡ r → AreQuiet (run m b ws).log.events
-  quiet_events m minds b ws is = (left m minds b ws is).quiet
-
-  pub acks_quietly : {A : Type 0} (m : Plan A) → ((w : Care) → Minds w m) → Acks m
-  acks_quietly m minds = λ b ws is.
+  pub acks_quietly : {A : Type 0} (m : Plan A) → HoldsOf (left r) m → Acks m
+  acks_quietly m h = λ b ws is.
       let o = run m b ws in
-      let l : Leaves (standing b) o = left m minds b ws is in
+      let l : Leaves r b o = h b ws is in
       record {
-        registry = l.stands.registry;
-        counts = l.stands.counters ∙ ap (signalled_all b.counters) (sym (quiet_told o.log.events l.quiet));
-        pic = l.stands.pic;
-        ioapic = l.stands.ioapic;
+        registry = l.stays.registry;
+        counts = l.stays.counters ∙ ap (signalled_all b.counters) (sym (quiet_told o.log.events l.quiet));
+        pic = l.stays.pic;
+        ioapic = l.stays.ioapic;
         follows = quiet_follows o.board o.log.events l.quiet;
       }
 

@@ -7,12 +7,10 @@ use Rattle.irq_base.specs.declared.event.Event.{Event}
 use Rattle.irq_base.specs.declared.event.Event.TheVariants.{Acked, Resampled, Watched, Rang, Injected, Resent, Ipi}
 use Rattle.irq_base.specs.declared.event.Pin.{Pin}
 use Rattle.irq_base.specs.declared.event.Pin.TheVariants as pins
-use Rattle.irq_base.specs.declared.message.Message.{Message}
-use Rattle.irq_base.specs.declared.message.Source.TheVariants.{Resample, Tick as TickSource}
+use Rattle.irq_base.specs.declared.message.Source.TheVariants.{Resample}
 use Rattle.irq_base.specs.declared.message.Targets.{Targets}
 use Rattle.irq_base.specs.declared.shape.Part.TheVariants as parts
 use Rattle.irq_base.specs.declared.shape.Shape.{Shape}
-use Rattle.ioapic_82093aa.specs.Pins.{entry_at, acknowledged, resend_of}
 use Rattle.irq_base.specs.Counts.{signalled_all}
 use Rattle.irqfd_set.specs.declared.irqfds.Irqfd.{Irqfd}
 use Rattle.irqfd_set.specs.Rows.{has_resampler}
@@ -20,22 +18,29 @@ use Rattle.resampler.specs.Resample.{resample_of, resampled, resample_events}
 use Rattle.ack_notifiers.specs.declared.watches.Watch.{Watch}
 use Rattle.ack_notifiers.specs.Rows.{has_watch, watched, watch_events}
 use Rattle.route_table.specs.Rows.{targets_of}
-use Rattle.tick_reinject.specs.Ticks.{ack_injects, tick_injected}
 use Rattle.board_model.specs.Registry.{RegistryPart}
 use Rattle.board_model.specs.Routing.{Routing, routing_of_registry}
-use Rattle.board_model.specs.Chips.{ioapic_of}
 use Rattle.board_model.specs.Board.{Board, with_part}
-use Rattle.board_model.specs.Statuses.{TargetAnswer}
-use Rattle.board_model.specs.Plan.{About, injected, resent, Plan, done, tell, change, ◌>>=◌, ◌>>◌}
+use Rattle.board_model.specs.Plan.{About, injected, resent, Plan, done, tell, ◌>>◌}
 use Rattle.board_model.specs.Run.{Wishes, Outcome, then_run, run}
 use Rattle.board_model.proofs.Sequence.{run-bind}
 use Rattle.board_raise.specs.Send.{send}
-use Rattle.board_raise.specs.Signal.{is_accepted, accept_pin, let_go, inject}
-use Rattle.board_ack.specs.Ticks.{inject_tick, inject_next, acknowledge_tick}
-use Rattle.board_ack.specs.Acknowledge.{signal_each, resample, notify, resample_and_notify, tell_concerned, resend, clear_and_resend, end_level, end_tick, acknowledge, acknowledge_each}
+use Rattle.board_raise.specs.Signal.{let_go}
+use Rattle.board_ack.specs.Acknowledge.{resend, signal_each, resample, notify, resample_and_notify, tell_concerned, end_level, end_tick, acknowledge, acknowledge_each}
 use Rattle.board_laws.specs.Resampling.{signal_told, signals_told, signal_owed, signals_owed}
-use Rattle.board_laws.proofs.ResamplingPlans.{Care, AreQuiet, Minds, minds_bind, minds_then, minds_if, tick_may, send_minds, accept_pin_minds, let_go_minds, inject_minds}
-use Rattle.board_laws.proofs.ResamplingAcks.{has_it, same_number, Resamples, Does, Acks, then_does, does_bind, quiet_events, acks_quietly, resamples_later, Said, said, resamples_tell, watches_tell, signal_acks, LetsGo, lets_go}
+use Rattle.board_laws.proofs.ResamplingPlans.{AreQuiet, no_more, Stays, same, left, shows_left, left_signals, left_ends}
+use Rattle.board_laws.proofs.ResamplingAcks.{has_it, same_number, Resamples, Does, Acks, then_does, acks_quietly, resamples_later, Said, said, resamples_tell, watches_tell, signal_acks, LetsGo, lets_go}
+use Rattle.std.proofs.Common.{true≢false}
+use Rattle.board_model.specs.Statuses.{Sent}
+use Rattle.board_model.specs.Plan.{Heading, ipi, the_reply, reply}
+use Rattle.board_model.specs.Run.{with_log, sending, next_wish, later_wishes}
+use Rattle.board_raise.specs.Send.{show}
+use Rattle.board_raise.proofs.Manner.{in_reply}
+use Rattle.board_laws.specs.Resampling.{counters_told}
+use Rattle.board_step.proofs.Walk.{Walk, Holds as HoldsOf, of_relation, ended, after}
+use Rattle.board_step.proofs.WalkSignals.{Shows, let_go_holds}
+use Rattle.board_step.proofs.WalkAcks.{resend_holds, end_tick_holds}
+use Rattle.board_step.proofs.WalkCalls.{Accesses}
 
 -- ---- what events tell and owe
 
@@ -110,32 +115,46 @@ module _ (r : RegistryPart) where
     pub does : Does r b o
     pub once : signals_told o.log.events ≡ signals_owed r o.log.events
 
+  -- what an outcome pays, and then the plan of its value
+  pub then_pays : {A B : Type 0} (f : A → Plan B) (b : Board) (o : Outcome A) → Pays b o → Pays o.board (run (f o.value) o.board o.wishes) → Pays b (then_run o f)
+  then_pays f b o one two = record {
+    does = then_does r b o f one.does two.does;
+    once = told_split o.log.events (run (f o.value) o.board o.wishes).log.events ∙ (λ i. one.once i ++ two.once i) ∙ sym (owed_split o.log.events (run (f o.value) o.board o.wishes).log.events);
+  }
+
+  -- what is written first changes neither counts nor registry, and Resample holds no pin more
+  pub put_pays : {A : Type 0} (b c : Board) (o : Outcome A) → Stays r b c → Pays c o → Pays b o
+  put_pays b c o stays p = record {
+    does = record {
+      registry = p.does.registry;
+      counts = p.does.counts ∙ ap (λ l. signalled_all l (counters_told o.log.events)) stays.counters;
+      pic = no_more b.pic.holds c.pic.holds o.board.pic.holds stays.pic p.does.pic;
+      ioapic = no_more b.ioapic.holds c.ioapic.holds o.board.ioapic.holds stays.ioapic p.does.ioapic;
+      follows = p.does.follows;
+    };
+    once = p.once;
+  }
+
+  pub quiet_pays : {A : Type 0} (m : Plan A) (b : Board) (ws : Wishes) → Does r b (run m b ws) → AreQuiet (run m b ws).log.events → Pays b (run m b ws)
+  quiet_pays m b ws does quiet = let g = quiet_give (run m b ws).log.events quiet in record { does = does; once = g.told ∙ sym g.owed }
+
+  abbrev pub pays : Walk
+  pays = of_relation (record {
+    Good = λ b o. Pays b o;
+    Fit = λ b. b.registry ≡ r;
+    May = λ b p v. Stays r b (with_part b p v);
+    starts = λ a b ws fit. quiet_pays (done a) b ws (acks_quietly r (done a) (ended (left r) a) b ws fit) tt;
+    puts = λ p v b o fit may h. put_pays b (with_part b p v) o may h;
+    fits = λ p v b fit may. may.registry;
+    joins = λ f b o fit h next. then_pays f b o h (next h.does.registry);
+  })
+
   -- so does a plan on every board with that registry
   abbrev pub Settles : {A : Type 0} → Plan A → Type 0
-  Settles m = (b : Board) (ws : Wishes) → b.registry ≡ r → Pays b (run m b ws)
+  Settles m = HoldsOf pays m
 
-  pub pays_bind : {A B : Type 0} (f : A → Plan B) (m : Plan A) (b : Board) (ws : Wishes) → Pays b (run m b ws) → ((a : A) → Settles (f a)) → Pays b (run (m >>= f) b ws)
-  pays_bind {A} {B} f m b ws one next =
-      let o = run m b ws in
-      let two : Pays o.board (run (f o.value) o.board o.wishes) = next o.value o.board o.wishes one.does.registry in
-      let same : signals_told (then_run o f).log.events ≡ signals_owed r (then_run o f).log.events =
-      told_split o.log.events (run (f o.value) o.board o.wishes).log.events ∙ (λ i. one.once i ++ two.once i) ∙ sym (owed_split o.log.events (run (f o.value) o.board o.wishes).log.events) in
-      record {
-        does = does_bind r f m b ws one.does (λ a c vs is. (next a c vs is).does);
-        once = subst (λ (x : Outcome B). signals_told x.log.events ≡ signals_owed r x.log.events) (sym (run-bind f m b ws)) same;
-      }
-
-  pub settles_then : {A B : Type 0} (m : Plan A) (n : Plan B) → Settles m → Settles n → Settles (m >> n)
-  settles_then m n h next = λ b ws is. pays_bind (λ _. n) m b ws (h b ws is) (λ _. next)
-
-  pub settles_if : {A : Type 0} (t : Bool) (m n : Plan A) → Settles m → Settles n → Settles (if t then m else n)
-  settles_if true m n h k = h
-  settles_if false m n h k = k
-
-  pub settles_quietly : {A : Type 0} (m : Plan A) → ((w : Care) → Minds w m) → Settles m
-  settles_quietly m minds = λ b ws is.
-      let g = quiet_give (run m b ws).log.events (quiet_events r m minds b ws is) in
-      record { does = acks_quietly r m minds b ws is; once = g.told ∙ sym g.owed }
+  pub settles_quietly : {A : Type 0} (m : Plan A) → HoldsOf (left r) m → Settles m
+  settles_quietly m h = λ b ws is. quiet_pays m b ws (acks_quietly r m h b ws is) (h b ws is).quiet
 
   -- ---- steps 2 and 3
 
@@ -151,7 +170,7 @@ module _ (r : RegistryPart) where
       let last : Outcome (Unit {0}) = run n o.board o.wishes in
       let two : Does r o.board last = next o.board o.wishes one.does.registry in
       subst (λ (x : Outcome (Unit {0})). Concerns gsi b x) (sym (run-bind (λ _. n) m b ws)) (record {
-        does = then_does r b o (λ _. n) one.does next;
+        does = then_does r b o (λ _. n) one.does two;
         first = λ on. resamples_later r o.board last.board two.pic two.ioapic gsi o.log.events last.log.events (one.first on);
       })
 
@@ -166,12 +185,12 @@ module _ (r : RegistryPart) where
         let o : Outcome (Unit {0}) = run (let_go targets Resample) b ws in
         let l : LetsGo r targets.pic targets.ioapic o = lets_go r targets.pic targets.ioapic b ws in
         let acks : Acks r next = signal_acks r (resampled r.irqfds gsi) (resample_events r.irqfds gsi) (resamples_tell r (resampled r.irqfds gsi)) in
-        let one : Does r b o = acks_quietly r (let_go targets Resample) (λ w. let_go_minds w targets Resample) b ws is in
+        let one : Does r b o = acks_quietly r (let_go targets Resample) (let_go_holds (left r) shape.cpus (left_signals r shape.cpus) targets Resample) b ws is in
         let last : Outcome (Unit {0}) = run next o.board o.wishes in
         let two : Does r o.board last = acks o.board o.wishes one.registry in
         let s : Said r (resample_events r.irqfds gsi) (with_part o.board parts.Counters (signalled_all o.board.counters (resampled r.irqfds gsi))) last = said r (resample_events r.irqfds gsi) (with_part o.board parts.Counters (signalled_all o.board.counters (resampled r.irqfds gsi))) o.wishes in
         subst (λ (x : Outcome (Unit {0})). Concerns gsi b x) (sym (run-bind (λ _. next) (let_go targets Resample) b ws)) (record {
-          does = then_does r b o (λ _. next) one acks;
+          does = then_does r b o (λ _. next) one two;
           first = λ _. record {
             more = [];
             events = ap (λ l. l ++ last.log.events) l.silent ∙ s.told ∙ sym (append-nil (resample_events r.irqfds gsi));
@@ -184,7 +203,7 @@ module _ (r : RegistryPart) where
     resample_concerns gsi b ws is =
         elim (has_resampler r.irqfds gsi) as (λ t. has_resampler r.irqfds gsi ≡ t → Concerns gsi b (run (if not t then done tt else (let_go (targets_of r.table gsi) Resample >> signal_each (resampled r.irqfds gsi) (resample_events r.irqfds gsi))) b ws)) [
           | true ↦ λ _. released gsi b ws is
-          | false ↦ λ off. record { does = acks_quietly r (done tt) (λ _. tt) b ws is; first = λ on. let never : false ≡ true = sym off ∙ on in cc }
+          | false ↦ λ off. record { does = acks_quietly r {A = Unit {0}} (done tt) (ended (left r) tt) b ws is; first = λ on. let never : false ≡ true = sym off ∙ on in cc }
         ] refl
 
     notify_acks : (gsi : ℕ) → Acks r (notify gsi r)
@@ -200,33 +219,13 @@ module _ (r : RegistryPart) where
     tell_concerns gsi b ws is =
         elim (routing.marked gsi) as (λ t. routing.marked gsi ≡ t → Concerns gsi b (run (if t then resample_and_notify routing gsi else done tt) b ws)) [
           | true ↦ λ _. both_concern gsi b ws is
-          | false ↦ λ off. record { does = acks_quietly r (done tt) (λ _. tt) b ws is; first = λ on. let never : false ≡ true = sym off ∙ ap (λ t. t || (has_watch r.watches gsi || nat_eq gsi shape.tick)) on in cc }
+          | false ↦ λ off. record { does = acks_quietly r {A = Unit {0}} (done tt) (ended (left r) tt) b ws is; first = λ on. let never : false ≡ true = sym off ∙ ap (λ t. t || (has_watch r.watches gsi || nat_eq gsi shape.tick)) on in cc }
         ] refl
 
     -- ---- steps 4 and 5
 
-    pub resend_minds : (w : Care) (cpus pin : ℕ) (message : Option Message) → Minds w (resend cpus pin message)
-    resend_minds w cpus pin None = tt
-    resend_minds w cpus pin (Some message) = minds_bind w (λ answer. accept_pin pin (is_accepted message answer)) (send cpus message None (resent pin)) (send_minds w cpus message None (resent pin)) (λ answer. accept_pin_minds w pin (is_accepted message answer))
-
-    level_minds : (w : Care) (cpus : ℕ) (pin : Pin) → Minds w (end_level cpus pin)
-    level_minds w cpus (pins.Pic pin) = tt
-    level_minds w cpus (pins.Ioapic pin) = λ part fine. minds_if w (entry_at (ioapic_of part) pin).level (clear_and_resend cpus pin part) (done tt) (fine, resend_minds w cpus pin (resend_of (acknowledged (ioapic_of part) pin) pin)) tt
-
-    pub tick_minds : (w : Care) (about : Option TargetAnswer → About) → Minds w (inject_tick routing shape about)
-    tick_minds w about = minds_bind w (λ status. change parts.Tick (λ tick. tick_injected tick status)) (inject shape.cpus (routing.targets shape.tick) TickSource about)
-        (inject_minds w TickSource (tick_may w) shape.cpus (routing.targets shape.tick) about) (λ status tick fine. (tt, tt))
-
-    next_minds : (w : Care) (injects : Bool) → Minds w (inject_next routing shape injects)
-    next_minds w true = tick_minds w (λ pic. injected shape.tick pic)
-    next_minds w false = tt
-
-    end_tick_minds : (w : Care) (gsi : Option ℕ) → Minds w (end_tick routing shape gsi)
-    end_tick_minds w None = tt
-    end_tick_minds w (Some gsi) = minds_if w (nat_eq gsi shape.tick) (acknowledge_tick routing shape) (done tt) (λ tick fine. (tt, next_minds w (ack_injects tick))) tt
-
-    rest_minds : (w : Care) (pin : Pin) (gsi : Option ℕ) → Minds w (end_level shape.cpus pin >> end_tick routing shape gsi)
-    rest_minds w pin gsi = minds_then w (end_level shape.cpus pin) (end_tick routing shape gsi) (level_minds w shape.cpus pin) (end_tick_minds w gsi)
+    rest_left : (pin : Pin) (gsi : Option ℕ) → HoldsOf (left r) (end_level shape.cpus pin >> end_tick routing shape gsi)
+    rest_left pin gsi = after (left r) (end_level shape.cpus pin) (end_tick routing shape gsi) ((left_ends r shape).levels pin) (end_tick_holds (left r) routing shape (left_ends r shape) gsi)
 
     -- ---- exactly these events
 
@@ -259,15 +258,15 @@ module _ (r : RegistryPart) where
           | false ↦ λ off. λ i. map Resampled (sym (no_resampler r.irqfds gsi (first_off (has_resampler r.irqfds gsi) _ off)) i) ++ map Watched (sym (no_watch r.watches gsi (first_off (has_watch r.watches gsi) _ (second_off (has_resampler r.irqfds gsi) _ off))) i)
         ] refl
 
-    all_told : (gsi : ℕ) (rest : Plan (Unit {0})) → ((w : Care) → Minds w rest) → (b : Board) (ws : Wishes) → b.registry ≡ r →
+    all_told : (gsi : ℕ) (rest : Plan (Unit {0})) → HoldsOf (left r) rest → (b : Board) (ws : Wishes) → b.registry ≡ r →
         signals_told (run (tell_concerned routing (Some gsi) >> rest) b ws).log.events ≡ (resample_events r.irqfds gsi ++ watch_events r.watches gsi) ++ signals_owed r (run (tell_concerned routing (Some gsi) >> rest) b ws).log.events
-    all_told gsi rest minds b ws is =
+    all_told gsi rest quietly b ws is =
         let due : List Event = resample_events r.irqfds gsi ++ watch_events r.watches gsi in
         let o : Outcome (Unit {0}) = run (tell_concerned routing (Some gsi)) b ws in
         let c : Concerns gsi b o = tell_concerns gsi b ws is in
         let last : Outcome (Unit {0}) = run rest o.board o.wishes in
         let one : Gives due due = give_both (resample_events r.irqfds gsi) (watch_events r.watches gsi) (resample_events r.irqfds gsi) (watch_events r.watches gsi) (resamples_give (resampled r.irqfds gsi)) (watches_give (watched r.watches gsi)) in
-        let two : Gives [] last.log.events = quiet_give last.log.events (quiet_events r rest minds o.board o.wishes c.does.registry) in
+        let two : Gives [] last.log.events = quiet_give last.log.events (quietly o.board o.wishes c.does.registry).quiet in
         let whole : Gives (due ++ []) (due ++ last.log.events) = give_both due last.log.events due [] one two in
         let events : (run (tell_concerned routing (Some gsi) >> rest) b ws).log.events ≡ due ++ last.log.events = ap (λ (x : Outcome (Unit {0})). x.log.events) (run-bind (λ _. rest) (tell_concerned routing (Some gsi)) b ws) ∙ ap (λ l. l ++ last.log.events) (concern_tells gsi b ws is) in
         ap signals_told events ∙ whole.told ∙ sym (ap (λ l. due ++ l) (ap (signals_owed r) events ∙ whole.owed))
@@ -276,13 +275,27 @@ module _ (r : RegistryPart) where
 
     of_gsi : (pin : Pin) (gsi : Option ℕ) → Settles (tell (Acked pin gsi) (tell_concerned routing gsi >> (end_level shape.cpus pin >> end_tick routing shape gsi)))
     of_gsi pin None = λ b ws is.
-        let p = settles_quietly (end_level shape.cpus pin >> end_tick routing shape None) (λ w. rest_minds w pin None) b ws is in
+        let p = settles_quietly (end_level shape.cpus pin >> end_tick routing shape None) (rest_left pin None) b ws is in
         record { does = record { registry = p.does.registry; counts = p.does.counts; pic = p.does.pic; ioapic = p.does.ioapic; follows = (tt, p.does.follows) }; once = p.once }
     of_gsi pin (Some gsi) = λ b ws is.
         let rest : Plan (Unit {0}) = end_level shape.cpus pin >> end_tick routing shape (Some gsi) in
-        let c : Concerns gsi b (run (tell_concerned routing (Some gsi) >> rest) b ws) = concerns_then gsi (tell_concerned routing (Some gsi)) rest (tell_concerns gsi) (acks_quietly r rest (λ w. rest_minds w pin (Some gsi))) b ws is in
-        record { does = record { registry = c.does.registry; counts = c.does.counts; pic = c.does.pic; ioapic = c.does.ioapic; follows = (c.first, c.does.follows) }; once = all_told gsi rest (λ w. rest_minds w pin (Some gsi)) b ws is }
+        let c : Concerns gsi b (run (tell_concerned routing (Some gsi) >> rest) b ws) = concerns_then gsi (tell_concerned routing (Some gsi)) rest (tell_concerns gsi) (acks_quietly r rest (rest_left pin (Some gsi))) b ws is in
+        record { does = record { registry = c.does.registry; counts = c.does.counts; pic = c.does.pic; ioapic = c.does.ioapic; follows = (c.first, c.does.follows) }; once = all_told gsi rest (rest_left pin (Some gsi)) b ws is }
 
     pub each_settles : (list : List Pin) → Settles (acknowledge_each routing shape list)
-    each_settles [] = settles_quietly (done tt) (λ _. tt)
-    each_settles (pin ∷ list) = settles_then (acknowledge routing shape pin) (acknowledge_each routing shape list) (of_gsi pin (routing.gsi_of pin)) (each_settles list)
+    each_settles [] = ended pays tt
+    each_settles (pin ∷ list) = after pays (acknowledge routing shape pin) (acknowledge_each routing shape list) (of_gsi pin (routing.gsi_of pin)) (each_settles list)
+
+    -- ---- accesses
+
+    pub pays_accesses : Accesses pays routing shape
+    pays_accesses = record {
+      acks = each_settles;
+      replies = λ answer plain. settles_quietly (reply answer) (λ b ws fit. record { stays = same r refl refl refl refl fit; quiet = tt });
+      resends = λ pin message. settles_quietly (resend shape.cpus pin message) (resend_holds (left r) shape.cpus (left_signals r shape.cpus) pin (shows_left r (resent pin)) message);
+      ipis = λ message from. settles_quietly (send shape.cpus message from ipi) ((left_signals r shape.cpus).sends message from ipi (shows_left r ipi));
+      pairs = λ pair b fit. same r refl refl refl refl fit;
+      stores = λ offset value b fit. same r refl refl refl refl fit;
+      registers = λ n offset value b fit. same r refl refl refl refl fit;
+      services = λ n b fit. same r refl refl refl refl fit;
+    }

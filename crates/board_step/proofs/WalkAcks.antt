@@ -23,7 +23,7 @@ use Rattle.board_raise.specs.Send.{send}
 use Rattle.board_raise.specs.Signal.{is_accepted, accept_pin, let_go, inject}
 use Rattle.board_ack.specs.Ticks.{inject_tick, inject_next, acknowledge_tick}
 use Rattle.board_ack.specs.Acknowledge.{signal_each, resample, notify, resample_and_notify, tell_concerned, resend, clear_and_resend, end_level, end_tick, acknowledge, acknowledge_each}
-use Rattle.board_step.proofs.Walk.{Walk, Holds, Seen, ended, bound, after, either, looked, written, changed}
+use Rattle.board_step.proofs.Walk.{Walk, Holds, Seen, ended, bound, after, either, either_at, looked, written, changed}
 use Rattle.board_step.proofs.WalkSignals.{Shows, Signals, MayRaise, accept_pin_holds, let_go_holds, inject_holds}
 
 module _ (w : Walk) where
@@ -38,24 +38,19 @@ module _ (w : Walk) where
       bound w (λ status. change parts.Tick (λ tick. tick_injected tick status)) (inject shape.cpus (routing.targets shape.tick) TickSource about) (inject_holds w shape.cpus s (routing.targets shape.tick) TickSource may about there)
       (λ status. changed w parts.Tick (λ tick. tick_injected tick status) (frees status))
 
-  -- what acknowledges need
-  pub record Acks (routing : Routing) (shape : Shape) : Type 0 where
-    pub signals : Signals w shape.cpus
-    pub acked : (pin : Pin) → Holds w (say (Acked pin (routing.gsi_of pin)))
+  -- ---- steps 2 and 3
+
+  -- what they need
+  pub record Tells : Type 0 where
     pub resamples : (registry : RegistryPart) (gsi : ℕ) → Seen w parts.Registry registry → Holds w (signal_each (resampled registry.irqfds gsi) (resample_events registry.irqfds gsi))
     pub notifies : (registry : RegistryPart) (gsi : ℕ) → Seen w parts.Registry registry → Holds w (notify gsi registry)
-    pub resends : (pin : ℕ) → Shows w (resent pin)
-    pub clears : (pin : ℕ) (b : Board) → w.Fit b → w.May b parts.Ioapic (with_ioapic b.ioapic (acknowledged (ioapic_of b.ioapic) pin))
-    pub frees : (b : Board) → w.Fit b → w.May b parts.Tick (tick_acked b.tick)
-    pub ticks : (about : Option TargetAnswer → About) → ((pic : Option TargetAnswer) → Shows w (about pic)) → Holds w (inject_tick routing shape about)
-    pub injects : (pic : Option TargetAnswer) → Shows w (injected shape.tick pic)
 
-  module _ (routing : Routing) (shape : Shape) (a : Acks routing shape) where
+  module _ (routing : Routing) (cpus : ℕ) (s : Signals w cpus) (a : Tells) where
     resample_holds : (gsi : ℕ) (registry : RegistryPart) → Seen w parts.Registry registry → Holds w (resample (routing.targets gsi) gsi registry)
     resample_holds gsi registry seen =
         let signals = signal_each (resampled registry.irqfds gsi) (resample_events registry.irqfds gsi) in
         elim (has_resampler registry.irqfds gsi) as (λ t. Holds w (if not t then done tt else (let_go (routing.targets gsi) Resample >> signals))) [
-          | true ↦ after w (let_go (routing.targets gsi) Resample) signals (let_go_holds w shape.cpus a.signals (routing.targets gsi) Resample) (a.resamples registry gsi seen)
+          | true ↦ after w (let_go (routing.targets gsi) Resample) signals (let_go_holds w cpus s (routing.targets gsi) Resample) (a.resamples registry gsi seen)
           | false ↦ ended w tt
         ]
 
@@ -64,35 +59,47 @@ module _ (w : Walk) where
         looked w parts.Registry _ (λ registry seen. looked w parts.Counters _ (λ counts _. looked w parts.Tick _ (λ tick _. looked w parts.Pic _ (λ pic _. looked w parts.Ioapic _ (λ ioapic _.
         after w (resample (routing.targets gsi) gsi registry) (notify gsi registry) (resample_holds gsi registry seen) (a.notifies registry gsi seen))))))
 
-    tell_holds : (gsi : Option ℕ) → Holds w (tell_concerned routing gsi)
+    pub tell_holds : (gsi : Option ℕ) → Holds w (tell_concerned routing gsi)
     tell_holds None = ended w tt
     tell_holds (Some gsi) = either w (routing.marked gsi) (resample_and_notify routing gsi) (done tt) (told_holds gsi) (ended w tt)
 
-    end_level_holds : (pin : Pin) → Holds w (end_level shape.cpus pin)
-    end_level_holds (pins.Pic pin) = ended w tt
-    end_level_holds (pins.Ioapic pin) = λ b ws fit. w.looks parts.Ioapic (λ part. if (entry_at (ioapic_of part) pin).level then clear_and_resend shape.cpus pin part else done tt) b ws
-        (elim (entry_at (ioapic_of b.ioapic) pin).level as (λ t. w.At (if t then clear_and_resend shape.cpus pin b.ioapic else done tt) b ws) [
-          | true ↦ w.puts parts.Ioapic (with_ioapic b.ioapic (acknowledged (ioapic_of b.ioapic) pin)) (resend shape.cpus pin (resend_of (acknowledged (ioapic_of b.ioapic) pin) pin)) b ws fit (a.clears pin b fit)
-              (resend_holds shape.cpus a.signals pin (a.resends pin) (resend_of (acknowledged (ioapic_of b.ioapic) pin) pin) (with_part b parts.Ioapic (with_ioapic b.ioapic (acknowledged (ioapic_of b.ioapic) pin))) ws)
-          | false ↦ w.ends tt b ws fit
-        ])
+  -- ---- steps 4 and 5
 
-    inject_next_holds : (injects : Bool) → Holds w (inject_next routing shape injects)
-    inject_next_holds true = a.ticks (λ pic. injected shape.tick pic) a.injects
-    inject_next_holds false = ended w tt
+  pub end_level_holds : (cpus : ℕ) → Signals w cpus → ((pin : ℕ) → Shows w (resent pin)) → ((pin : ℕ) (b : Board) → w.Fit b → w.May b parts.Ioapic (with_ioapic b.ioapic (acknowledged (ioapic_of b.ioapic) pin))) → (pin : Pin) → Holds w (end_level cpus pin)
+  end_level_holds cpus s resends clears (pins.Pic pin) = ended w tt
+  end_level_holds cpus s resends clears (pins.Ioapic pin) = λ b ws fit. w.looks parts.Ioapic (λ part. if (entry_at (ioapic_of part) pin).level then clear_and_resend cpus pin part else done tt) b ws
+      (either_at w (entry_at (ioapic_of b.ioapic) pin).level (clear_and_resend cpus pin b.ioapic) (done tt) b ws
+      (w.puts parts.Ioapic (with_ioapic b.ioapic (acknowledged (ioapic_of b.ioapic) pin)) (resend cpus pin (resend_of (acknowledged (ioapic_of b.ioapic) pin) pin)) b ws fit (clears pin b fit)
+          (resend_holds cpus s pin (resends pin) (resend_of (acknowledged (ioapic_of b.ioapic) pin) pin) (with_part b parts.Ioapic (with_ioapic b.ioapic (acknowledged (ioapic_of b.ioapic) pin))) ws))
+      (w.ends tt b ws fit))
 
-    end_tick_holds : (gsi : Option ℕ) → Holds w (end_tick routing shape gsi)
-    end_tick_holds None = ended w tt
-    end_tick_holds (Some gsi) = either w (nat_eq gsi shape.tick) (acknowledge_tick routing shape) (done tt)
-        (written w parts.Tick tick_acked (λ tick. inject_next routing shape (ack_injects tick)) a.frees (λ tick. inject_next_holds (ack_injects tick))) (ended w tt)
+  module _ (routing : Routing) (shape : Shape) where
+    -- what they need
+    pub record Ends : Type 0 where
+      pub levels : (pin : Pin) → Holds w (end_level shape.cpus pin)
+      pub frees : (b : Board) → w.Fit b → w.May b parts.Tick (tick_acked b.tick)
+      pub ticks : Holds w (inject_tick routing shape (λ pic. injected shape.tick pic))
 
-    pub acknowledge_holds : (pin : Pin) → Holds w (acknowledge routing shape pin)
-    acknowledge_holds pin =
-        let gsi = routing.gsi_of pin in
-        let last = end_tick routing shape gsi in
-        after w (say (Acked pin gsi)) (tell_concerned routing gsi >> (end_level shape.cpus pin >> last)) (a.acked pin)
-        (after w (tell_concerned routing gsi) (end_level shape.cpus pin >> last) (tell_holds gsi) (after w (end_level shape.cpus pin) last (end_level_holds pin) (end_tick_holds gsi)))
+    module _ (a : Ends) where
+      inject_next_holds : (injects : Bool) → Holds w (inject_next routing shape injects)
+      inject_next_holds true = a.ticks
+      inject_next_holds false = ended w tt
 
-    pub acks_hold : (pins : List Pin) → Holds w (acknowledge_each routing shape pins)
-    acks_hold [] = ended w tt
-    acks_hold (pin ∷ pins) = after w (acknowledge routing shape pin) (acknowledge_each routing shape pins) (acknowledge_holds pin) (acks_hold pins)
+      pub end_tick_holds : (gsi : Option ℕ) → Holds w (end_tick routing shape gsi)
+      end_tick_holds None = ended w tt
+      end_tick_holds (Some gsi) = either w (nat_eq gsi shape.tick) (acknowledge_tick routing shape) (done tt)
+          (written w parts.Tick tick_acked (λ tick. inject_next routing shape (ack_injects tick)) a.frees (λ tick. inject_next_holds (ack_injects tick))) (ended w tt)
+
+    -- ---- all five
+
+    module _ (acked : (pin : Pin) → Holds w (say (Acked pin (routing.gsi_of pin)))) (s : Signals w shape.cpus) (tells : Tells) (a : Ends) where
+      acknowledge_holds : (pin : Pin) → Holds w (acknowledge routing shape pin)
+      acknowledge_holds pin =
+          let gsi = routing.gsi_of pin in
+          let last = end_tick routing shape gsi in
+          after w (say (Acked pin gsi)) (tell_concerned routing gsi >> (end_level shape.cpus pin >> last)) (acked pin)
+          (after w (tell_concerned routing gsi) (end_level shape.cpus pin >> last) (tell_holds routing shape.cpus s tells gsi) (after w (end_level shape.cpus pin) last (a.levels pin) (end_tick_holds a gsi)))
+
+      pub acks_hold : (pins : List Pin) → Holds w (acknowledge_each routing shape pins)
+      acks_hold [] = ended w tt
+      acks_hold (pin ∷ pins) = after w (acknowledge routing shape pin) (acknowledge_each routing shape pins) (acknowledge_holds pin) (acks_hold pins)

@@ -12,7 +12,9 @@ use Rattle.irq_base.specs.declared.event.Pin.{Pin}
 use Rattle.irq_base.specs.declared.event.Pin.TheVariants as pins
 use Rattle.irq_base.specs.declared.call.Row.{Row}
 use Rattle.irq_base.specs.declared.message.Source.TheVariants.{Line, Resample}
+use Rattle.irq_base.specs.declared.message.Message.{Message}
 use Rattle.irq_base.specs.declared.refusal.Refusal.{Refusal}
+use Rattle.lapic.specs.declared.outcome.Shorthand.{Shorthand}
 use Rattle.irq_base.specs.declared.reply.Reply.{Reply}
 use Rattle.irq_base.specs.declared.reply.Reply.TheVariants.{Signal, Done, Count, Empty, Removed, Value, Exit, Vector, Extint, Nmi, Ended, Nothing, Held, Refused}
 use Rattle.irq_base.specs.declared.shape.Part.TheVariants.{Registry, Counters, Tick, Pic, Ioapic, Lapic}
@@ -42,7 +44,7 @@ use Rattle.board_model.specs.Registry.{RegistryPart}
 use Rattle.board_model.specs.Routing.{Routing}
 use Rattle.board_model.specs.Chips.{PicPart, IoapicPart, pair_of, ioapic_of, with_pair, with_ioapic}
 use Rattle.board_model.specs.Statuses.{TargetAnswer}
-use Rattle.board_model.specs.Plan.{injected, resent, ipi, the_reply, Plan, done, put, say, change, reply, ◌>>◌}
+use Rattle.board_model.specs.Plan.{injected, ipi, the_reply, Plan, done, put, say, change, reply, ◌>>◌}
 use Rattle.board_model.specs.Run.{Wishes}
 use Rattle.source_levels.specs.Holds.{Holds as PinHolds}
 use Rattle.board_raise.specs.Send.{send}
@@ -50,14 +52,13 @@ use Rattle.board_raise.specs.Signal.{raise, lowered_status}
 use Rattle.board_ack.specs.Ticks.{inject_tick}
 use Rattle.board_ack.specs.Acknowledge.{resend, acknowledge_each}
 use Rattle.board_step.specs.Refusals.{write_reasons, assign_reasons, attach_reasons, detach_reasons, watch_reasons, unwatch_reasons, is_ioapic_address, is_lapic_address}
-use Rattle.board_step.specs.Registrations.{unless_refused, line_set, message_sent, source_of, trigger_written, write, read_reply, take, inject_count, assign, was_last_resampler, release, deassigned, deassign, kept_holds, reroute, attach, detach, watch, unwatch}
+use Rattle.board_step.specs.Registrations.{count_written, unless_refused, line_set, message_sent, source_of, trigger_written, write, read_reply, take, inject_count, assign, was_last_resampler, release, deassigned, deassign, kept_holds, reroute, attach, detach, watch, unwatch}
 use Rattle.board_step.specs.Ticks.{tick_or_hold, tick_mode}
 use Rattle.board_step.specs.Processors.{pins_with, end_vector, ended_reply, end_of_interrupt, pic_pin, cycle_pins, cycle_made, inta, given_reply, give, hears_pair, give_of_pair, take_nmi, next_interrupt}
 use Rattle.board_step.specs.Accesses.{pair_written, pair_write, pair_gave, pair_read, resend_written, ioapic_written, ioapic_store, ioapic_load, store_effects, lapic_stored, lapic_store, lapic_load, ring_counter, rung, ring, port_out, port_in, store, load}
 use Rattle.board_step.specs.Calls.{plan_in_range}
 use Rattle.board_step.proofs.Walk.{Walk, Holds, ended, bound, after, either, either_at, looked, written, changed}
 use Rattle.board_step.proofs.WalkSignals.{Shows, Signals, MayRaise, let_go_holds, lower_holds, raise_holds, inject_only}
-use Rattle.board_step.proofs.WalkAcks.{resend_holds}
 
 -- whether a reply is a status
 abbrev pub is_signal : Reply → Bool
@@ -85,11 +86,10 @@ module _ (w : Walk) (routing : Routing) (shape : Shape) where
 
   -- what accesses of chips and ends of interrupts need
   pub record Accesses : Type 0 where
-    pub signals : Signals w shape.cpus
     pub acks : (list : List Pin) → Holds w (acknowledge_each routing shape list)
     pub replies : (r : Reply) → is_signal r ≡ false → Holds w (reply r)
-    pub resends : (pin : ℕ) → Shows w (resent pin)
-    pub ipis : Shows w ipi
+    pub resends : (pin : ℕ) (message : Option Message) → Holds w (resend shape.cpus pin message)
+    pub ipis : (message : Message) (from : Option (ℕ × Shorthand)) → Holds w (send shape.cpus message from ipi)
     pub pairs : (pair : Pair) (b : Board) → w.Fit b → w.May b Pic (with_pair b.pic pair)
     pub stores : (offset value : ℕ) (b : Board) → w.Fit b → w.May b Ioapic (with_ioapic b.ioapic (write_to (ioapic_of b.ioapic) offset value).after)
     pub registers : (n offset value : ℕ) (b : Board) → w.Fit b → w.May b (Lapic n) (store_to (part_of b (Lapic n)) offset value)
@@ -146,7 +146,7 @@ module _ (w : Walk) (routing : Routing) (shape : Shape) where
           (cycle_at (Extint (cycle (pair_of b.pic)).vector) refl b ws fit) (give_at n b ws fit)))
           (give_at n b ws fit)))
 
-    pair_write_holds : (port len value : ℕ) → Holds w (pair_write routing shape port len value)
+    pub pair_write_holds : (port len value : ℕ) → Holds w (pair_write routing shape port len value)
     pair_write_holds port len value = λ b ws fit.
         let effect = pair_write_to (pair_of b.pic) port value in
         let first = if nat_eq len 1 then pair_written routing shape b.pic effect else done tt in
@@ -157,7 +157,7 @@ module _ (w : Walk) (routing : Routing) (shape : Shape) where
         (w.ends tt b ws fit))
         (answers_at Done refl))
 
-    pair_read_holds : (port len : ℕ) → Holds w (pair_read routing shape port len)
+    pub pair_read_holds : (port len : ℕ) → Holds w (pair_read routing shape port len)
     pair_read_holds port len = λ b ws fit.
         let read = pair_read_from (pair_of b.pic) port in
         w.looks Pic (λ pic. if nat_eq len 1 then pair_gave routing shape pic (pair_read_from (pair_of pic) port) else reply (Value 0)) b ws
@@ -167,9 +167,9 @@ module _ (w : Walk) (routing : Routing) (shape : Shape) where
 
     pub resend_written_holds : (pin : Option ℕ) → Holds w (resend_written shape pin)
     resend_written_holds None = ended w tt
-    resend_written_holds (Some pin) = looked w Ioapic (λ part. resend shape.cpus pin (resend_of (ioapic_of part) pin)) (λ part _. resend_holds w shape.cpus a.signals pin (a.resends pin) (resend_of (ioapic_of part) pin))
+    resend_written_holds (Some pin) = looked w Ioapic (λ part. resend shape.cpus pin (resend_of (ioapic_of part) pin)) (λ part _. a.resends pin (resend_of (ioapic_of part) pin))
 
-    ioapic_store_holds : (offset len value : ℕ) → Holds w (ioapic_store shape offset len value)
+    pub ioapic_store_holds : (offset len value : ℕ) → Holds w (ioapic_store shape offset len value)
     ioapic_store_holds offset len value = λ b ws fit.
         let made = write_to (ioapic_of b.ioapic) offset value in
         let first = if nat_eq len 4 then ioapic_written shape b.ioapic made else done tt in
@@ -183,9 +183,9 @@ module _ (w : Walk) (routing : Routing) (shape : Shape) where
     effects_hold : (n : ℕ) (effect : LapicEffect) → Holds w (store_effects routing shape n effect)
     effects_hold n effects.Plain = ended w tt
     effects_hold n (effects.Ended vector) = vector_holds vector
-    effects_hold n (effects.Send message) = bound w (λ answer. done tt) (send shape.cpus message.message (Some (n, message.to)) ipi) (a.signals.sends message.message (Some (n, message.to)) ipi a.ipis) (λ _. ended w tt)
+    effects_hold n (effects.Send message) = bound w (λ answer. done tt) (send shape.cpus message.message (Some (n, message.to)) ipi) (a.ipis message.message (Some (n, message.to))) (λ _. ended w tt)
 
-    lapic_store_holds : (n offset len value : ℕ) → Holds w (lapic_store routing shape n offset len value)
+    pub lapic_store_holds : (n offset len value : ℕ) → Holds w (lapic_store routing shape n offset len value)
     lapic_store_holds n offset len value = λ b ws fit.
         let apic = part_of b (Lapic n) in
         let first = if nat_eq len 4 then lapic_stored routing shape n (store_to apic offset value) (store_effect apic offset value) else done tt in
@@ -199,7 +199,7 @@ module _ (w : Walk) (routing : Routing) (shape : Shape) where
 
     -- a guest write, whatever it rings
     module _ (rings : (counter : Option ℕ) → Holds w (rung routing shape counter)) where
-      ring_holds : (space : Space) (address len value : ℕ) → Holds w (ring routing shape space address len value)
+      pub ring_holds : (space : Space) (address len value : ℕ) → Holds w (ring routing shape space address len value)
       ring_holds space address len value = looked w Registry (λ registry. rung routing shape (rung_by registry.ioevents space address len value)) (λ registry _. rings (rung_by registry.ioevents space address len value))
 
       pub port_out_holds : (port len value : ℕ) → Holds w (port_out routing shape port len value)
@@ -256,6 +256,14 @@ module _ (w : Walk) (routing : Routing) (shape : Shape) where
   unless_at replies None m b ws fit h = h refl
   unless_at replies (Some refusal) m b ws fit h = replies (Refused refusal) refl b ws fit
 
+  -- a count that is written, unless it would be past the greatest
+  pub count_holds : ((r : Reply) → is_signal r ≡ false → Holds w (reply r)) → (counter n : ℕ) → ((b : Board) → w.Fit b → first_of (write_reasons b.counters counter n) ≡ None → w.May b Counters (count_of b.counters counter n)) → Holds w (count_written counter n)
+  count_holds plain counter n may = λ b ws fit.
+      let m = put Counters (count_of b.counters counter n) (reply Done) in
+      w.looks Counters (λ counts. unless_refused (first_of (write_reasons counts counter n)) (put Counters (count_of counts counter n) (reply Done))) b ws
+      (unless_at plain (first_of (write_reasons b.counters counter n)) m b ws fit
+      (λ none. w.puts Counters (count_of b.counters counter n) (reply Done) b ws fit (may b fit none) (plain Done refl (with_part b Counters (count_of b.counters counter n)) ws)))
+
   -- ---- calls whose sendings show in the reply
 
   -- what they need
@@ -278,10 +286,7 @@ module _ (w : Walk) (routing : Routing) (shape : Shape) where
     message_holds address payload = bound w (λ answer. done tt) (send shape.cpus (message_in address payload) None (the_reply None)) (a.signals.sends (message_in address payload) None (the_reply None) (a.shows None)) (λ _. ended w tt)
 
     pub write_holds : (counter n : ℕ) (trigger : Option TriggerWord) → routing.trigger counter ≡ trigger → Holds w (write routing shape trigger counter n)
-    write_holds counter n None is = λ b ws fit.
-        w.looks Counters (λ counts. unless_refused (first_of (write_reasons counts counter n)) (put Counters (count_of counts counter n) (reply Done))) b ws
-        (unless_at a.plain (first_of (write_reasons b.counters counter n)) (put Counters (count_of b.counters counter n) (reply Done)) b ws fit
-        (λ none. w.puts Counters (count_of b.counters counter n) (reply Done) b ws fit (a.counts counter n is b fit none) (a.plain Done refl (with_part b Counters (count_of b.counters counter n)) ws)))
+    write_holds counter n None is = count_holds a.plain counter n (a.counts counter n is)
     write_holds counter n (Some trigger) is = either w (nat_eq n 0) (reply Done) (trigger_written routing shape trigger) (a.plain Done refl)
         (inject_only w shape.cpus a.signals (routing.targets trigger.gsi) (source_of trigger.resample) (a.fires counter trigger is) (λ pic. the_reply pic) a.shows)
 
@@ -369,7 +374,7 @@ module _ (w : Walk) (routing : Routing) (shape : Shape) where
 
   module _ (a : Plain) where
     rings_hold : (counter : Option ℕ) → Holds w (rung routing shape counter)
-    rings_hold = rung_holds a.accesses.signals a.rings a.accesses.replies
+    rings_hold = rung_holds a.replied.signals a.rings a.accesses.replies
 
     pub plain_holds : (n : ℕ) (call : Call) → is_plain call ≡ true → Holds w (plan_in_range routing shape n call)
     plain_holds n (calls.Line gsi line high) is = line_holds a.replied gsi line high

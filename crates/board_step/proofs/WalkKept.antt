@@ -37,7 +37,7 @@ use Rattle.board_step.specs.Refusals.{write_reasons}
 use Rattle.board_step.specs.Registrations.{source_of}
 use Rattle.board_step.proofs.Walk.{Walk, Holds, Seen, kept_by, after, changed}
 use Rattle.board_step.proofs.WalkSignals.{Shows, Signals, MayRaise, send_holds}
-use Rattle.board_step.proofs.WalkAcks.{Acks, acks_hold, inject_tick_holds}
+use Rattle.board_step.proofs.WalkAcks.{Tells, Ends, resend_holds, end_level_holds, acks_hold, inject_tick_holds}
 use Rattle.board_step.proofs.WalkCalls.{Plain}
 
 module _ (P : Board → Type 0) where
@@ -106,27 +106,22 @@ module _ (P : Board → Type 0) where
       pub tick_kept : (about : Option TargetAnswer → About) → Holds walk (inject_tick routing shape about)
       tick_kept about = inject_tick_holds walk routing shape signals k.ticks k.falls about (λ pic. shows (about pic))
 
-      acks : Acks walk routing shape
-      acks = record {
-        signals = signals;
-        acked = λ pin b ws fit. fit;
+      tells : Tells walk
+      tells = record {
         resamples = λ registry gsi seen. signals_each (resampled registry.irqfds gsi) (resample_events registry.irqfds gsi) (k.resamples registry gsi seen);
         notifies = λ registry gsi seen. signals_each (watched registry.watches gsi) (watch_events registry.watches gsi) (k.notifies registry gsi seen);
-        resends = λ pin. shows (resent pin);
-        clears = k.clears;
-        frees = k.frees;
-        ticks = λ about there. tick_kept about;
-        injects = λ pic. shows (injected shape.tick pic);
       }
+
+      ends : Ends walk routing shape
+      ends = record { levels = end_level_holds walk shape.cpus signals (λ pin. shows (resent pin)) k.clears; frees = k.frees; ticks = tick_kept (λ pic. injected shape.tick pic) }
 
       pub calls_kept : Plain walk routing shape
       calls_kept = record {
         accesses = record {
-          signals = signals;
-          acks = acks_hold walk routing shape acks;
+          acks = acks_hold walk routing shape (λ pin b ws fit. fit) signals tells ends;
           replies = λ r plain b ws fit. fit;
-          resends = λ pin. shows (resent pin);
-          ipis = shows ipi;
+          resends = λ pin message. resend_holds walk shape.cpus signals pin (shows (resent pin)) message;
+          ipis = λ message from. signals.sends message from ipi (shows ipi);
           pairs = k.pairs;
           stores = k.stores;
           registers = k.registers;
