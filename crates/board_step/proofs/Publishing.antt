@@ -26,11 +26,7 @@ use Rattle.board_step.specs.Calls.{number_of, plan_in_range}
 use Rattle.board_step.specs.Step.{later_reasons, refusal_of, does_publish, publishes_unless, would_publish, plan_on, outcome_of, with_counts, counted, is_done, is_removed, did_publish, is_publication}
 use Rattle.board_step.specs.Reach.{reach, of_call}
 use Rattle.board_step.specs.History.{opening}
-<<<<<<< HEAD
 use Rattle.board_step.specs.Publications.{StepsShowPublications, PublicationsReachTheRegistry, StepsKeepTheFrame, HistoriesKeepTheFrame, LegalHistoriesCount, spent_by, LimitsAreTold, words, WordsStayAlong}
-=======
-use Rattle.board_step.specs.Publications.{StepsShowPublications, PublicationsReachTheRegistry, StepsKeepTheFrame, HistoriesKeepTheFrame, LegalHistoriesCount}
->>>>>>> 60e09be4453cca912d8fbbafd1cb1f523afc06df
 use Rattle.board_step.proofs.Refusing.{refuses_first}
 use Rattle.board_step.proofs.SoundOpening.{apics_many}
 use Rattle.board_step.proofs.WordsStay.{words_stay}
