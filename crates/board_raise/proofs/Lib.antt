@@ -1,6 +1,7 @@
 pub mod Choice
 pub mod SendExactly
 pub mod Pins
+pub mod PinsInHand
 pub mod Reaching
 pub mod SignalReach
 pub mod ReachAlike

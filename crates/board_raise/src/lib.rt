@@ -10,10 +10,12 @@
 mod lacks;
 mod on_rig;
 mod board_rig;
+mod holding;
 mod parts;
 mod rig;
 mod row;
 mod sending;
+mod signals;
 mod words;
 
 ghost use Rattle.board_raise.specs.Laws.{WishesChooseExactly, WishesReachExactly, IllegalVectorIsRecorded};
@@ -28,6 +30,8 @@ pub use board_rig::BoardRig;
 pub use parts::{IoPart, Parts, PicPart, RegistryPart};
 pub use rig::Rig;
 pub use row::LapicRow;
+pub use holding::{accept_pin, let_go, raise_ioapic, raise_pic};
+pub use signals::{inject, lower_gsi, raise_gsi, send_of_pin};
 pub use words::Words;
 
 /// A law: of some named processors the sets that are chosen under all wishes are those that may be reached.
