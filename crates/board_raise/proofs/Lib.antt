@@ -17,6 +17,8 @@ pub mod Delivered
 pub mod Rows
 pub mod OnHand
 pub mod Telling
+pub mod Composing
+pub mod Signalling
 pub mod Lacking
 pub mod Manner
 pub mod SignalSteady

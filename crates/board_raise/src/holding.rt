@@ -9,7 +9,7 @@ ghost use Rattle.board_model.specs.Run.{Wishes, run_on};
 ghost use Rattle.board_raise.specs.Fit.{PairFits, IoapicFits, PinsFit};
 ghost use Rattle.board_raise.specs.InHand.{pic_of, ioapic_of, parts_of, chips_of, OnlyPinsChange};
 ghost use Rattle.board_raise.specs.Shown.{DoesQuietly, Leaves};
-ghost use Rattle.board_raise.specs.Signal.{pic_raised, pic_let_go, pic_answer, ioapic_raised, ioapic_let_go, raise_pic, raise_ioapic, accept_pin, let_go_pic, let_go_ioapic, let_go};
+ghost use Rattle.board_raise.specs.Signal.{pic_raised, pic_let_go, pic_answer, ioapic_raised, ioapic_let_go, raise_pic, raise_ioapic, accept_pin, let_go_pic, let_go_ioapic, let_go, let_go_after};
 
 use crate::lacks::Lacks;
 use crate::parts::{IoPart, Parts, PicPart};
@@ -207,5 +207,21 @@ pub fn let_go(parts: &mut Parts, targets: &Targets, source: Source) -> Result<()
     match let_go_pic(parts, targets.pic, source) {
         Ok(()) => let_go_ioapic(parts, targets.ioapic, source),
         Err(lacks) => Err(lacks),
+    }
+}
+
+/// After an injection the source lets go of the targets; `Resample` holds them until they are acknowledged.
+pub fn let_go_after(parts: &mut Parts, targets: &Targets, source: Source) -> Result<(), Lacks>
+    requires pic { IsTrue (is_below targets.now.pic 16) }
+    requires ioapic { IsTrue (is_below targets.now.ioapic 24) }
+    requires line { IsSource source }
+    requires fits { PinsFit (chips_of parts.old) }
+    ensures does { (ws : Wishes) → Leaves result (parts_of parts.new) ws (run_on (let_go_after targets.now source) (parts_of parts.old) ws) }
+    ensures kept { OnlyPinsChange parts.old parts.new }
+    ensures fits { PinsFit (chips_of parts.new) }
+{
+    match source {
+        Source::Resample => Ok(()),
+        _ => let_go(parts, targets, source),
     }
 }

@@ -7,10 +7,10 @@
 //! holds.
 #![tactic(auto)]
 
-mod lacks;
-mod on_rig;
 mod board_rig;
 mod holding;
+mod lacks;
+mod on_rig;
 mod parts;
 mod rig;
 mod row;
@@ -24,13 +24,13 @@ ghost use Rattle.board_raise.specs.ReachLaws.{SendsReachTheSame, SignalsReachThe
 ghost use Rattle.board_raise.specs.Steady.{SendsSteadily};
 
 pub use board_model::TriggerWord;
+pub use board_rig::BoardRig;
+pub use holding::{accept_pin, let_go, raise_ioapic, raise_pic};
 pub use lacks::Lacks;
 pub use on_rig::send;
-pub use board_rig::BoardRig;
 pub use parts::{IoPart, Parts, PicPart, RegistryPart};
 pub use rig::Rig;
 pub use row::LapicRow;
-pub use holding::{accept_pin, let_go, raise_ioapic, raise_pic};
 pub use signals::{inject, lower_gsi, raise_gsi, send_of_pin};
 pub use words::Words;
 

@@ -17,7 +17,7 @@ ghost use Rattle.board_raise.specs.Shown.{Leaves, Place, about_at, Shows, shown_
 ghost use Rattle.board_raise.specs.Signal.{pic_answer, is_accepted, send_of_pin, raise_other, raise, lowered_status, let_go, inject};
 ghost use Rattle.board_raise.specs.Told.{answer_in, IsOfMessage};
 
-use crate::holding::{accept_pin, let_go, raise_ioapic, raise_pic};
+use crate::holding::{accept_pin, let_go, let_go_after, raise_ioapic, raise_pic};
 use crate::lacks::Lacks;
 use crate::on_rig::send;
 use crate::rig::Rig;
@@ -122,11 +122,8 @@ pub fn inject<R: Rig>(
         Ok(status) => status,
         Err(lacks) => return Err(lacks),
     };
-    if matches!(source, Source::Resample) {
-        return Ok(status);
-    }
     let parts = rig.parts();
-    match let_go(parts, targets, source) {
+    match let_go_after(parts, targets, source) {
         Ok(()) => Ok(status),
         Err(lacks) => Err(lacks),
     }
@@ -210,12 +207,18 @@ fn raise_other<R: Rig>(
     ensures strays { R.astray rig.new ≡ R.astray rig.old }
     ensures noted { R.noted rig.new ≡ R.noted rig.old }
 {
-    let raised = match (targets.ioapic, targets.msi) {
-        (Some(pin), _) => raise_pin(rig, cpus, pin, source),
-        (None, Some(word)) => send(rig, cpus, &message_of(word), None),
-        (None, None) => return Ok(None),
-    };
-    match raised {
+    match (targets.ioapic, targets.msi) {
+        (Some(pin), _) => as_other(raise_pin(rig, cpus, pin, source)),
+        (None, Some(word)) => as_other(send(rig, cpus, &message_of(word), None)),
+        (None, None) => Ok(None),
+    }
+}
+
+// The status of a target that is there.
+fn as_other(status: Result<Status, Lacks>) -> Result<Option<Status>, Lacks>
+    ensures { result ≡ as_other status }
+{
+    match status {
         Ok(status) => Ok(Some(status)),
         Err(lacks) => Err(lacks),
     }
