@@ -72,7 +72,7 @@ impl Watches {
         if has_row(self.rows.as_slice(), counter, gsi) {
             return Err(Refusal::Exists);
         }
-        if self.rows.len() == ROOM {
+        if self.rows.len() >= ROOM {
             return Err(Refusal::Full);
         }
         match self.rows.push(Watch { counter, gsi }) {

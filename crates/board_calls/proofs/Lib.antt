@@ -1,0 +1,5 @@
+pub mod Ranges
+pub mod InHand
+pub mod Holding
+pub mod Owners
+pub mod Fitting
