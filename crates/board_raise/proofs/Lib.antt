@@ -1,6 +1,7 @@
 pub mod Choice
 pub mod SendExactly
 pub mod Pins
+pub mod PinsInHand
 pub mod Reaching
 pub mod SignalReach
 pub mod ReachAlike
@@ -16,6 +17,8 @@ pub mod Delivered
 pub mod Rows
 pub mod OnHand
 pub mod Telling
+pub mod Composing
+pub mod Signalling
 pub mod Lacking
 pub mod Manner
 pub mod SignalSteady

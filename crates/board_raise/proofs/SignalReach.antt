@@ -109,7 +109,7 @@ module _ (q : Part) where
   both_chips true i = refl
   both_chips false i = one_chip i
 
-  let_go_by : (pic ioapic : Option ℕ) (msi : Option MsiWord) (source : Source) (b : Board) (ws : Wishes)
+  pub let_go_by : (pic ioapic : Option ℕ) (msi : Option MsiWord) (source : Source) (b : Board) (ws : Wishes)
       → reaches (let_go (record { pic = pic; ioapic = ioapic; msi = msi }) source) b ws q ≡ (of_pin pic Pic q || of_pin ioapic Ioapic q)
   let_go_by None None msi source b ws = refl
   let_go_by (Some pin) None msi source b ws = one_chip (is_same Pic q) ∙ sym (or_false (is_same Pic q))

@@ -54,3 +54,18 @@ pub record OnlyApicsChange (old new : parts.Parts) : Type 0 where
   pub others : new ≡ record old { lapics = new.lapics }
   pub places : length new.lapics ≡ length old.lapics
   pub numbers : (n : ℕ) → number_in new.lapics n ≡ number_in old.lapics n
+
+-- ---- what a signal changes of them
+
+-- only chips with pins change, and the same parts are in hand
+pub record OnlyPinsChange (old new : parts.Parts) : Type 0 where
+  pub held : (part : Part) → is_some (part_in (parts_of new) part) ≡ is_some (part_in (parts_of old) part)
+  pub others : new ≡ record old { pic = new.pic; ioapic = new.ioapic }
+
+-- only chips with pins and local APICs change: the same parts are in hand, each local APIC stands where one stood, and has its
+-- number
+pub record OnlySignalled (old new : parts.Parts) : Type 0 where
+  pub held : (part : Part) → is_some (part_in (parts_of new) part) ≡ is_some (part_in (parts_of old) part)
+  pub others : new ≡ record old { pic = new.pic; ioapic = new.ioapic; lapics = new.lapics }
+  pub places : length new.lapics ≡ length old.lapics
+  pub numbers : (n : ℕ) → number_in new.lapics n ≡ number_in old.lapics n

@@ -9,6 +9,7 @@ pub mod Steady
 pub mod OnRow
 pub mod InHand
 pub mod Told
+pub mod Shown
 pub mod Lending
 pub mod BoardRig
 pub mod RowSteps

@@ -60,6 +60,13 @@ ioapic_raised part pin source = record part { holds = set.insert part.holds (hol
 abbrev pub ioapic_let_go : IoapicPart → ℕ → Source → IoapicPart
 ioapic_let_go part pin source = record part { holds = set.remove part.holds (hold pin source) }
 
+-- the I/O APIC pin is raised, and the value is what came of it
+abbrev pub raise_ioapic : ℕ → Source → Plan Raise
+raise_ioapic pin source = do
+  part ← see Ioapic
+  put_part Ioapic (ioapic_raised part pin source)
+  done (raise_of (ioapic_of part) pin)
+
 -- whether processors took a level-triggered message, newly or again; an NMI is none
 abbrev pub is_accepted : Message → TargetAnswer → Bool
 is_accepted message (no_effect cause) = false
@@ -69,6 +76,13 @@ is_accepted message answer = message.level
 abbrev pub accept_pin : ℕ → Bool → Plan (Unit {0})
 accept_pin pin true = change Ioapic (λ part. with_ioapic part (pin_accepted (ioapic_of part) pin))
 accept_pin pin false = done tt
+
+-- a pin sends a message, and the value is what that answers; remote IRR is set where processors took a level-triggered one
+abbrev pub send_of_pin : ℕ → ℕ → Message → About → Plan TargetAnswer
+send_of_pin cpus pin message about = do
+  answer ← send cpus message None about
+  accept_pin pin (is_accepted message answer)
+  done answer
 
 -- a target answers without a message sent, and the status shows
 abbrev pub answer_shown : About → Option TargetAnswer → Plan (Option TargetAnswer)
@@ -90,9 +104,8 @@ ioapic_answered cpus pin about (raises.Send message) = do
 -- the other target: a pin of the I/O APIC, or a message, which is sent at each raise, or none
 abbrev pub raise_other : ℕ → Option ℕ → Option MsiWord → Source → About → Plan (Option TargetAnswer)
 raise_other cpus (Some pin) msi source about = do
-  part ← see Ioapic
-  put_part Ioapic (ioapic_raised part pin source)
-  ioapic_answered cpus pin about (raise_of (ioapic_of part) pin)
+  answer ← raise_ioapic pin source
+  ioapic_answered cpus pin about answer
 raise_other cpus None (Some word) source about = do
   answer ← send cpus (message_in word.address word.payload) None about
   done (Some answer)

@@ -8,12 +8,14 @@
 #![tactic(auto)]
 
 mod board_rig;
+mod holding;
 mod lacks;
 mod on_rig;
 mod parts;
 mod rig;
 mod row;
 mod sending;
+mod signals;
 mod words;
 
 ghost use Rattle.board_raise.specs.Laws.{WishesChooseExactly, WishesReachExactly, IllegalVectorIsRecorded};
@@ -23,11 +25,13 @@ ghost use Rattle.board_raise.specs.Steady.{SendsSteadily};
 
 pub use board_model::TriggerWord;
 pub use board_rig::BoardRig;
+pub use holding::{accept_pin, let_go, raise_ioapic, raise_pic};
 pub use lacks::Lacks;
 pub use on_rig::send;
 pub use parts::{IoPart, Parts, PicPart, RegistryPart};
 pub use rig::Rig;
 pub use row::LapicRow;
+pub use signals::{inject, lower_gsi, raise_gsi, send_of_pin};
 pub use words::Words;
 
 /// A law: of some named processors the sets that are chosen under all wishes are those that may be reached.
