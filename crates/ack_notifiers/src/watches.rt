@@ -108,6 +108,13 @@ impl Watches {
         self.rows.iter().any(|row| row.counter == counter)
     }
 
+    /// The rows, in order of registration.
+    pub fn rows(&self) -> &[Watch]
+        ensures { result.now ≡ self.now }
+    {
+        self.rows.as_slice()
+    }
+
     /// Signals the counter of each watch of that GSI, in order of registration, with its event. There is room for these
     /// events, and the counters are there.
     pub fn on_ack<C: Tally>(&self, gsi: u16, counters: &mut C, events: &mut Events)
