@@ -1,8 +1,7 @@
 //! Counters are written and read (eventfd(2)).
 ghost use Rattle.std.specs.Prelude.{◌≡◌, ◌<◌, ◌-◌, ◌^◌, length, IfSome};
 ghost use Rattle.irq_base.specs.declared.shape.Shape.{Shape};
-ghost use Rattle.board_model.specs.Run.{Wishes, run_on};
-ghost use Rattle.board_raise.specs.InHand.{parts_of};
+ghost use Rattle.board_model.specs.Run.{Wishes};
 ghost use Rattle.board_step.specs.Registrations.{count_written, take};
 ghost use Rattle.board_calls.specs.Done.{Replies, SameInHand, FitsShape};
 
@@ -13,7 +12,7 @@ use irq_base::{Part, Refusal, Reply};
 #[tactic(auto, using(crate::proofs::InHand::in_hand_rules))]
 pub fn take(parts: &mut Parts, counter: u16) -> Result<Reply, Lacks>
     requires { IfSome parts.old.counters (λ counts. counter < length counts) }
-    ensures does { (ws : Wishes) → Replies result (parts_of parts.new) ws (run_on (take counter) (parts_of parts.old) ws) }
+    ensures does { (ws : Wishes) → Replies (take counter) parts.old ws result parts.new ws }
     ensures held { SameInHand parts.old parts.new }
     ensures fits { (shape : Shape) → FitsShape shape parts.old → FitsShape shape parts.new }
 {
@@ -33,7 +32,7 @@ pub fn take(parts: &mut Parts, counter: u16) -> Result<Reply, Lacks>
 pub fn add(parts: &mut Parts, counter: u16, n: u64) -> Result<Reply, Lacks>
     requires counter { IfSome parts.old.counters (λ counts. counter < length counts) }
     requires count { n < 2 ^ 64 - 1 }
-    ensures does { (ws : Wishes) → Replies result (parts_of parts.new) ws (run_on (count_written counter n) (parts_of parts.old) ws) }
+    ensures does { (ws : Wishes) → Replies (count_written counter n) parts.old ws result parts.new ws }
     ensures held { SameInHand parts.old parts.new }
     ensures fits { (shape : Shape) → FitsShape shape parts.old → FitsShape shape parts.new }
 {

@@ -6,9 +6,11 @@
 #![tactic(auto)]
 
 mod counters;
+mod irqfds;
 mod range;
 mod registrations;
 mod reroute;
+mod signals;
 mod ticks;
 
 pub use range::refused_by_range;

@@ -7,8 +7,8 @@ ghost use Rattle.ack_notifiers.specs.Rows as watches;
 ghost use Rattle.ack_notifiers.specs.Rows.{unwatch_answer, with_row};
 ghost use Rattle.ioevent_set.specs.Rows.{attach_answer, detach_answer, without_row};
 ghost use Rattle.std.specs.List.{list_any};
-ghost use Rattle.board_model.specs.Run.{Wishes, run_on};
-ghost use Rattle.board_raise.specs.InHand.{parts_of, registry_of};
+ghost use Rattle.board_model.specs.Run.{Wishes};
+ghost use Rattle.board_raise.specs.InHand.{registry_of};
 ghost use Rattle.board_step.specs.Refusals.{watch_reasons};
 ghost use Rattle.board_step.specs.Registrations.{attach, detach, watch, unwatch};
 ghost use Rattle.board_calls.specs.Done.{Replies, SameInHand, FitsShape};
@@ -28,7 +28,7 @@ pub fn is_trigger(irqfds: &Irqfds, counter: u16) -> bool
 /// Makes an ioeventfd: `Done`, or `Exists` where it collides with one, or `Full` where 256 are there.
 #[tactic(auto, using(crate::proofs::InHand::in_hand_rules))]
 pub fn attach(parts: &mut Parts, row: IoRow) -> Result<Reply, Lacks>
-    ensures does { (ws : Wishes) → Replies result (parts_of parts.new) ws (run_on (attach row) (parts_of parts.old) ws) }
+    ensures does { (ws : Wishes) → Replies (attach row) parts.old ws result parts.new ws }
     ensures held { SameInHand parts.old parts.new }
     ensures fits { (shape : Shape) → row.counter < shape.counters → FitsShape shape parts.old → FitsShape shape parts.new }
 {
@@ -46,7 +46,7 @@ pub fn attach(parts: &mut Parts, row: IoRow) -> Result<Reply, Lacks>
 /// Ends an ioeventfd: `Done`, or `NotThere` where it is not there.
 #[tactic(auto, using(crate::proofs::InHand::in_hand_rules))]
 pub fn detach(parts: &mut Parts, row: &IoRow) -> Result<Reply, Lacks>
-    ensures does { (ws : Wishes) → Replies result (parts_of parts.new) ws (run_on (detach row.now) (parts_of parts.old) ws) }
+    ensures does { (ws : Wishes) → Replies (detach row.now) parts.old ws result parts.new ws }
     ensures held { SameInHand parts.old parts.new }
     ensures fits { (shape : Shape) → FitsShape shape parts.old → FitsShape shape parts.new }
 {
@@ -66,7 +66,7 @@ pub fn detach(parts: &mut Parts, row: &IoRow) -> Result<Reply, Lacks>
 #[tactic(auto, using(crate::proofs::InHand::in_hand_rules))]
 pub fn watch(parts: &mut Parts, counter: u16, gsi: u16) -> Result<Reply, Lacks>
     requires { gsi < 4096 }
-    ensures does { (ws : Wishes) → Replies result (parts_of parts.new) ws (run_on (watch counter gsi) (parts_of parts.old) ws) }
+    ensures does { (ws : Wishes) → Replies (watch counter gsi) parts.old ws result parts.new ws }
     ensures held { SameInHand parts.old parts.new }
     ensures fits { (shape : Shape) → counter < shape.counters → FitsShape shape parts.old → FitsShape shape parts.new }
 {
@@ -84,7 +84,7 @@ pub fn watch(parts: &mut Parts, counter: u16, gsi: u16) -> Result<Reply, Lacks>
 /// Ends an acknowledge notifier: `Done`, or `NotThere` where it is not there.
 #[tactic(auto, using(crate::proofs::InHand::in_hand_rules))]
 pub fn unwatch(parts: &mut Parts, counter: u16, gsi: u16) -> Result<Reply, Lacks>
-    ensures does { (ws : Wishes) → Replies result (parts_of parts.new) ws (run_on (unwatch counter gsi) (parts_of parts.old) ws) }
+    ensures does { (ws : Wishes) → Replies (unwatch counter gsi) parts.old ws result parts.new ws }
     ensures held { SameInHand parts.old parts.new }
     ensures fits { (shape : Shape) → FitsShape shape parts.old → FitsShape shape parts.new }
 {

@@ -5,9 +5,9 @@ ghost use Rattle.irq_base.specs.declared.event.Pin.TheVariants.{Pic, Ioapic};
 ghost use Rattle.irq_base.specs.declared.shape.Shape.{Shape};
 ghost use Rattle.route_table.specs.Rows.{refusal_of, table_of};
 ghost use Rattle.route_table.specs.Pins.{gsi_of};
-ghost use Rattle.board_model.specs.Run.{Wishes, run_on};
+ghost use Rattle.board_model.specs.Run.{Wishes};
 ghost use Rattle.board_raise.specs.Fit.{PairFits, IoapicFits};
-ghost use Rattle.board_raise.specs.InHand.{parts_of, pic_of, ioapic_of};
+ghost use Rattle.board_raise.specs.InHand.{pic_of, ioapic_of};
 ghost use Rattle.board_step.specs.Registrations.{is_same_gsi, reroute};
 ghost use Rattle.board_calls.specs.Done.{Replies, SameInHand, FitsShape};
 ghost use Rattle.board_calls.specs.Moved.{AreGsis, kept_by, without_pin};
@@ -27,7 +27,7 @@ struct PinGsis {
 /// or had none, loses all its holds and is low.
 pub fn reroute(parts: &mut Parts, rows: &Rows) -> Result<Reply, Lacks>
     requires { refusal_of rows.now ≡ None }
-    ensures does { (ws : Wishes) → Replies result (parts_of parts.new) ws (run_on (reroute rows.now) (parts_of parts.old) ws) }
+    ensures does { (ws : Wishes) → Replies (reroute rows.now) parts.old ws result parts.new ws }
     ensures held { SameInHand parts.old parts.new }
     ensures fits { (shape : Shape) → FitsShape shape parts.old → FitsShape shape parts.new }
 {
