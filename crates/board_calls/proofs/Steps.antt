@@ -1,0 +1,55 @@
+-- Calls that signal are their first steps and what follows.
+use Rattle.std.proofs.Common.{◌≡◌, ℕ, Bool, true, false, if◌then◌else◌, Some, None, refl, ap}
+use Rattle.std.specs.declared.option.Option.{Option}
+use Rattle.irq_base.specs.declared.reply.Reply.TheVariants.{Removed, Held}
+use Rattle.irq_base.specs.declared.shape.Part.TheVariants.{Registry, Tick}
+use Rattle.irq_base.specs.declared.shape.Shape.{Shape}
+use Rattle.irq_base.specs.declared.status.Status.{Status}
+use Rattle.irq_base.specs.declared.status.Status.TheVariants.{Delivered, Coalesced, Ignored, Lowered}
+use Rattle.irqfd_set.specs.declared.irqfds.Irqfd.{Irqfd}
+use Rattle.irqfd_set.specs.Rows.{named_row}
+use Rattle.tick_reinject.specs.declared.state.TickState.{TickState}
+use Rattle.tick_reinject.specs.Ticks.{tick_injects, ticked, tick_injected}
+use Rattle.board_model.specs.Registry.{RegistryPart}
+use Rattle.board_model.specs.Routing.{Routing}
+use Rattle.board_model.specs.Plan.{the_reply, Plan, done, look, put, reply, ◌>>=◌, ◌>>◌}
+use Rattle.board_raise.specs.Shown.{without_sets}
+use Rattle.board_ack.specs.Ticks.{inject_tick}
+use Rattle.board_step.specs.Registrations.{release, deassigned, deassign}
+use Rattle.board_step.specs.Ticks.{tick_or_hold, tick}
+use Rattle.board_calls.specs.Pieces.{removed, removing, falling}
+
+-- ---- an irqfd ends
+
+-- after the row went
+abbrev pub after_removal : Routing → ℕ → Option Bool → Plan (Unit {0})
+after_removal routing gsi None = reply (Removed 0)
+after_removal routing gsi (Some last) = release routing gsi last >> reply (Removed 1)
+
+pub deassign_steps : (routing : Routing) (trigger gsi : ℕ) → (removing trigger gsi >>= after_removal routing gsi) ≡ deassign routing trigger gsi
+deassign_steps routing trigger gsi = λ i. look Registry (λ v. at v (named_row v.irqfds trigger gsi) i)
+  where
+    at : (v : RegistryPart) (row : Option Irqfd) → (removed v trigger gsi row >>= after_removal routing gsi) ≡ deassigned routing v trigger gsi row
+    at v None = refl
+    at v (Some row) = refl
+
+-- ---- a tick falls
+
+-- after the tick fell
+abbrev pub after_fall : Routing → Shape → Option ℕ → Plan (Unit {0})
+after_fall routing shape None = inject_tick routing shape (λ pic. the_reply pic)
+after_fall routing shape (Some pending) = reply (Held pending)
+
+pub tick_steps : (routing : Routing) (shape : Shape) → (falling >>= after_fall routing shape) ≡ tick routing shape
+tick_steps routing shape = λ i. look Tick (λ v. put Tick (ticked v) (at v (tick_injects v) i))
+  where
+    at : (v : TickState) (t : Bool) → after_fall routing shape (if t then None else Some (ticked v).pending) ≡ tick_or_hold routing shape (ticked v) t
+    at v true = refl
+    at v false = refl
+
+-- whom a message reached is nothing to the tick state
+pub noted_alike : (status : Status) → ◌≡◌ {A = TickState → TickState} (λ s. tick_injected s status) (λ s. tick_injected s (without_sets status))
+noted_alike (Delivered new stood pic) = refl
+noted_alike (Coalesced stood) = refl
+noted_alike (Ignored cause) = refl
+noted_alike Lowered = refl

@@ -1,0 +1,36 @@
+use Rattle.std.proofs.Common.{◌≡◌, false, sym, ap, subst, ◌∙◌}
+use Rattle.source_levels.specs.Holds.{Holds}
+use Rattle.board_raise.specs.declared.parts.PicPart as code
+use Rattle.board_raise.specs.Fit.{PairFits}
+use Rattle.board_raise.specs.InHand.{pic_of}
+use Rattle.board_calls.specs.Moved.{without_pin}
+use Rattle.board_calls.proofs.Holding.{same_at, kept_up_to, kept_at_first, kept_at_last, keeps_pin, drops_pin}
+use Rattle.board_calls.proofs.reroute.forget_moved_pics.Goals as goal
+use Rattle.board_calls.proofs.reroute.forget_moved_pics.Goals.{then-not-is_same_gsi, else-not-is_same_gsi}
+
+pub loop-pin-init : goal.loop-pin-init
+loop-pin-init c =
+    (ap (λ (holds : Holds). record (pic_of c.args.part.now) { holds = holds }) (sym (kept_at_first c.args.before.now c.args.after.now c.args.part.now.levels)), λ fits. fits)
+
+pub loop-pin-preserved : goal.loop-pin-preserved
+loop-pin-preserved c =
+    let before = c.args.before.now in
+    let after = c.args.after.now in
+    let pin = c.loop-pin.pin in
+    let start = c.args.part.now in
+    let so_far = c.loop-pin.invariant in
+    elim c.if-not-is_same_gsi.branch [
+      | then-not-is_same_gsi w ↦ (
+        ap pic_of w.part-is
+            ∙ w.forget_pic.ensures.after
+            ∙ (λ i. record (so_far.0 i) { holds = without_pin (so_far.0 i).holds pin })
+            ∙ ap (λ (holds : Holds). record (pic_of start) { holds = holds }) (drops_pin before after start.levels pin (sym c.is_same_gsi.ensures ∙ w.if-not-is_same_gsi.true)),
+        λ fits. subst (λ (p : code.PicPart). PairFits p.pair p.levels) (sym w.part-is) (w.forget_pic.ensures.fits (so_far.1 fits)),
+      )
+      | else-not-is_same_gsi w ↦ (
+        ap pic_of w.part-is
+            ∙ so_far.0
+            ∙ ap (λ (holds : Holds). record (pic_of start) { holds = holds }) (keeps_pin before after start.levels pin (sym c.is_same_gsi.ensures ∙ w.if-not-is_same_gsi.false)),
+        λ fits. subst (λ (p : code.PicPart). PairFits p.pair p.levels) (sym w.part-is) (so_far.1 fits),
+      )
+    ]
