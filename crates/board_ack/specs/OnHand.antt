@@ -79,6 +79,13 @@ end_entry pin = do
   part ← see Ioapic
   (if (entry_at (ioapic_of part) pin).level then clear_entry pin part else done None)
 
+-- the I/O APIC after that, and the message that is to be sent again
+abbrev pub entry_ended : IoapicPart → ℕ → IoapicPart
+entry_ended part pin = if (entry_at (ioapic_of part) pin).level then with_ioapic part (acknowledged (ioapic_of part) pin) else part
+
+abbrev pub sent_again : IoapicPart → ℕ → Option Message
+sent_again part pin = if (entry_at (ioapic_of part) pin).level then resend_of (acknowledged (ioapic_of part) pin) pin else None
+
 -- ---- what is changed
 
 -- all but the registry may change: the same parts are in hand, with as many counters and no more ticks pending, and each local

@@ -32,6 +32,7 @@ pub fn concern(
     requires pins { PinsFit (chips_of parts.old) }
     requires registered { AreRegistered (parts_of parts.old) }
     ensures does { (ws : Wishes) → Adds result events.old.items events.new.items (parts_of parts.new) ws (run_on (concern targets.now gsi) (parts_of parts.old) ws) }
+    ensures missing { IfErr result (λ l. is_some (part_in (parts_of parts.old) l.part) ≡ false) }
     ensures kept { OnlyAcked parts.old parts.new }
     ensures pins { PinsFit (chips_of parts.new) }
 {
@@ -69,6 +70,7 @@ fn see_concerned(parts: &Parts) -> Result<(), Lacks>
 }
 
 // Step 2: where the GSI has resamplers, `Resample` leaves all its pins, and each resample counter gains one, in order.
+#[tactic(auto, using(crate::proofs::Adding::told_rules))]
 fn resample(
     parts: &mut Parts,
     targets: &Targets,

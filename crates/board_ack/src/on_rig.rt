@@ -58,6 +58,7 @@ pub fn ack_pin<R: Rig>(
 }
 
 // Steps 2 and 3: those whom the GSI concerns are told, where it is marked.
+#[tactic(auto, using(crate::proofs::Adding::told_rules))]
 fn tell_concerned<R: Rig>(
     rig: &mut R,
     gsi: Option<u16>,

@@ -45,6 +45,7 @@ pub fn inject_tick<R: Rig>(rig: &mut R, shape: &Shape) -> Result<Status, Lacks>
 }
 
 /// Where the GSI is the tick's, a tick less is pending, and the next is injected where one is left.
+#[tactic(auto, using(crate::proofs::Adding::told_rules))]
 pub fn end_tick<R: Rig>(
     rig: &mut R,
     shape: &Shape,
@@ -95,6 +96,7 @@ pub fn end_tick<R: Rig>(
 // A tick less is pending; tells whether the next is to be injected.
 fn free_tick(parts: &mut Parts) -> Result<bool, Lacks>
     ensures does { (ws : Wishes) → DoesQuietly (λ injects. injects) result (parts_of parts.new) ws (run_on free_tick (parts_of parts.old) ws) }
+    ensures missing { IfErr result (λ l. is_some (part_in (parts_of parts.old) l.part) ≡ false) }
     ensures kept { OnlyAcked parts.old parts.new }
     ensures pins { chips_of parts.new ≡ chips_of parts.old }
 {
@@ -107,6 +109,7 @@ fn free_tick(parts: &mut Parts) -> Result<bool, Lacks>
 // A tick was injected with this status.
 fn tick_injected(parts: &mut Parts, status: &Status) -> Result<(), Lacks>
     ensures does { (ws : Wishes) → Leaves result (parts_of parts.new) ws (run_on (change TickPart (λ tick. tick_injected tick status.now)) (parts_of parts.old) ws) }
+    ensures missing { IfErr result (λ l. is_some (part_in (parts_of parts.old) l.part) ≡ false) }
     ensures kept { OnlyAcked parts.old parts.new }
     ensures pins { chips_of parts.new ≡ chips_of parts.old }
 {
