@@ -59,11 +59,7 @@ pub fn ack_pin<R: Rig>(
 
 // Steps 2 and 3: those whom the GSI concerns are told, where it is marked.
 #[tactic(auto, using(crate::proofs::Adding::told_rules))]
-fn tell_concerned<R: Rig>(
-    rig: &mut R,
-    gsi: Option<u16>,
-    events: &mut Events,
-) -> Result<(), Lacks>
+fn tell_concerned<R: Rig>(rig: &mut R, gsi: Option<u16>, events: &mut Events) -> Result<(), Lacks>
     requires pins { PinsFit (chips_of (R.held rig.old)) }
     requires registered { AreRegistered (parts_of (R.held rig.old)) }
     requires gsi { IfSome gsi (λ g. g < 4096) }

@@ -2,7 +2,14 @@
 ghost use Rattle.std.specs.Prelude.{◌≡◌, ℕ, ◌<◌, List, Option, true, false, None, Some, IfErr, IfSome, IsOk};
 ghost use Rattle.irq_base.specs.Callers.{is_allowed, is_there};
 ghost use Rattle.irq_base.specs.Faces.{
-    Rose, StopsTell, IsPlaced, PlacedEntry, own_after, WhereTold, LeftFalls, may_publish,
+  Rose,
+  StopsTell,
+  IsPlaced,
+  PlacedEntry,
+  own_after,
+  WhereTold,
+  LeftFalls,
+  may_publish,
 };
 ghost use Rattle.irq_base.specs.declared.call.Call.{Call as Asked};
 ghost use Rattle.irq_base.specs.declared.call.Caller.{Caller as Asker};
