@@ -151,6 +151,4 @@ fn signal_rows<C: Tally>(rows: &[Watch], gsi: u16, counters: &mut C, events: &mu
             tell(Event::Watched(row.counter), events);
         }
     }
-    // An `ArrayVec` says here that it holds no more than it has room for.
-    let _within_room = events.is_full();
 }

@@ -62,12 +62,16 @@ resample targets gsi registry =
 abbrev pub notify : ℕ → RegistryPart → Plan (Unit {0})
 notify gsi registry = signal_each (watched registry.watches gsi) (watch_events registry.watches gsi)
 
--- steps 2 and 3 of a GSI that concerns somebody
-abbrev pub resample_and_notify : Routing → ℕ → Plan (Unit {0})
-resample_and_notify routing gsi = do
+-- steps 2 and 3 of a GSI that goes to these targets and concerns somebody
+abbrev pub concern : Targets → ℕ → Plan (Unit {0})
+concern targets gsi = do
   registry ← see_concerned
-  resample (routing.targets gsi) gsi registry
+  resample targets gsi registry
   notify gsi registry
+
+-- the same by the routing
+abbrev pub resample_and_notify : Routing → ℕ → Plan (Unit {0})
+resample_and_notify routing gsi = concern (routing.targets gsi) gsi
 
 -- steps 2 and 3: a GSI that is not marked concerns nobody
 abbrev pub tell_concerned : Routing → Option ℕ → Plan (Unit {0})

@@ -1,3 +1,4 @@
 pub mod Acknowledge
 pub mod Ticks
 pub mod ReachLaws
+pub mod OnHand

@@ -21,10 +21,16 @@ abbrev pub inject_next : Routing → Shape → Bool → Plan (Unit {0})
 inject_next routing shape true = inject_tick routing shape (λ pic. injected shape.tick pic)
 inject_next routing shape false = done tt
 
--- an acknowledge of a pin of the tick's GSI: under reinjection it frees the tick state and takes one tick off, if any is
--- pending, and the next is injected where one is left; without reinjection it does nothing
-abbrev pub acknowledge_tick : Routing → Shape → Plan (Unit {0})
-acknowledge_tick routing shape = do
+-- under reinjection the tick state is free and has one tick less, if any is pending; the value tells whether the next is
+-- injected, where one is left; without reinjection nothing happens
+abbrev pub free_tick : Plan Bool
+free_tick = do
   tick ← see Tick
   put_part Tick (tick_acked tick)
-  inject_next routing shape (ack_injects tick)
+  done (ack_injects tick)
+
+-- an acknowledge of a pin of the tick's GSI
+abbrev pub acknowledge_tick : Routing → Shape → Plan (Unit {0})
+acknowledge_tick routing shape = do
+  injects ← free_tick
+  inject_next routing shape injects

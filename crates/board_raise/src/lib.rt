@@ -2,9 +2,9 @@
 //!
 //! Reading order of the definitions: `Named` (for which processors a message is), `Send` (its five steps), `Signal` (a GSI is
 //! raised, lowered or injected), `Fit` (parts that can belong to one board), `OnRow` (a sending on local APICs in hand),
-//! `InHand` (the parts that the code has, as those of the model), `Told` (what the status of a sending tells), and then what
-//! holds of them: `Laws`, `Steady`, `PinLaws`, `ReachLaws`. The functions without a body are laws: the contract of each is what
-//! holds.
+//! `InHand` (the parts that the code has, as those of the model), `Told` (what the status of a sending tells), `Shown` (what
+//! that of a signal tells), and then what holds of them: `Laws`, `Steady`, `PinLaws`, `ReachLaws`. The functions without a body
+//! are laws: the contract of each is what holds.
 #![tactic(auto)]
 
 mod board_rig;

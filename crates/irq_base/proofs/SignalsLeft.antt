@@ -30,8 +30,8 @@ signal_next event first counts before events all left counter signals = record {
 }
 
 -- all are signalled
-pub signals_done : (event : ℕ → Event) (first counts : List ℕ) (before events : List Event) (all : List ℕ) → length events ≤ 640 → SignalsLeft event first counts before events all [] → events ≡ with_told before (map event all)
-signals_done event first counts before events all fits signals = sym (told-none events fits) ∙ signals.events_left
+pub signals_done : (event : ℕ → Event) (first counts : List ℕ) (before events : List Event) (all : List ℕ) → SignalsLeft event first counts before events all [] → events ≡ with_told before (map event all)
+signals_done event first counts before events all signals = sym (told-none events) ∙ signals.events_left
 
 -- where all their events find room, they are told whole
 pub signals_fit : (event : ℕ → Event) (before events : List Event) (all : List ℕ) → events ≡ with_told before (map event all) → length before + length all ≤ 640 → events ≡ before ++ map event all

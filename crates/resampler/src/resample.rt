@@ -23,8 +23,6 @@ pub fn on_ack(irqfds: &Irqfds, gsi: u16, counters: &mut Counters, events: &mut E
             tell(Event::Resampled(counter), events);
         }
     }
-    // An `ArrayVec` says here that it holds no more than it has room for.
-    let _within_room = events.is_full();
 }
 
 // The resample counter of a row, where the row is one of that GSI.

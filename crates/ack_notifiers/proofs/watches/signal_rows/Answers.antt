@@ -27,6 +27,6 @@ loop-row-preserved g c =
 
 pub returns-clause-events : goal.returns-clause-events
 returns-clause-events g c =
-    signals_done Watched (g.C.Tally.counts c.args.counters.now) (g.C.Tally.counts c.loop-row.counters) c.args.events.now.items c.loop-row.events.items (watched c.args.rows.now c.args.gsi) c.is_full-within_room.ensures.fits
+    signals_done Watched (g.C.Tally.counts c.args.counters.now) (g.C.Tally.counts c.loop-row.counters) c.args.events.now.items c.loop-row.events.items (watched c.args.rows.now c.args.gsi)
     (subst (SignalsLeft Watched (g.C.Tally.counts c.args.counters.now) (g.C.Tally.counts c.loop-row.counters) c.args.events.now.items c.loop-row.events.items (watched c.args.rows.now c.args.gsi))
     (ap (λ l. watched l c.args.gsi) (drop_all c.loop-row.row-index c.args.rows.now c.loop-row-test.false)) c.loop-row.invariant)

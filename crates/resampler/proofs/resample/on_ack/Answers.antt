@@ -40,7 +40,7 @@ none_left walked rows k gsi same past = ap (λ (l : List Irqfd). resampled (drop
 
 pub returns-clause-events : goal.returns-clause-events
 returns-clause-events c =
-    signals_done Resampled c.args.counters.now c.loop-row.counters c.args.events.now.items c.loop-row.events.items (resampled c.args.irqfds.now c.args.gsi) c.is_full-within_room.ensures.fits
+    signals_done Resampled c.args.counters.now c.loop-row.counters c.args.events.now.items c.loop-row.events.items (resampled c.args.irqfds.now c.args.gsi)
     (subst (SignalsLeft Resampled c.args.counters.now c.loop-row.counters c.args.events.now.items c.loop-row.events.items (resampled c.args.irqfds.now c.args.gsi))
     (none_left c.rows-row-items.result.now c.args.irqfds.now c.loop-row.row-index c.args.gsi c.rows-row-items.ensures c.loop-row-test.false) c.loop-row.invariant)
 
