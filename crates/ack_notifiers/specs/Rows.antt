@@ -1,5 +1,5 @@
 -- Acknowledge notifiers, a list of rows in order of registration (this board's own rule).
-use Rattle.std.specs.Prelude.{ℕ, Bool, not, ◌&&◌, nat_eq, if◌then◌else◌, List, [], ◌∷◌, ◌++◌, length, map, filter, Result, Ok, Err}
+use Rattle.std.specs.Prelude.{ℕ, Bool, not, ◌&&◌, nat_eq, nat_le, if◌then◌else◌, List, [], ◌∷◌, ◌++◌, length, map, filter, Result, Ok, Err}
 use Rattle.std.specs.List.{list_any}
 use Rattle.irq_base.specs.declared.event.Event.{Event}
 use Rattle.irq_base.specs.declared.event.Event.TheVariants.{Watched}
@@ -25,7 +25,7 @@ has_counter rows counter = list_any (λ row. nat_eq row.counter counter) rows
 
 -- a watch that is there is refused, and then any where 256 are there
 abbrev pub watch_answer : List Watch → ℕ → ℕ → Result (Unit {0}) Refusal
-watch_answer rows counter gsi = if has_row rows counter gsi then Err Exists else if nat_eq (length rows) 256 then Err Full else Ok tt
+watch_answer rows counter gsi = if has_row rows counter gsi then Err Exists else if nat_le 256 (length rows) then Err Full else Ok tt
 
 -- a watch that is not there cannot end
 abbrev pub unwatch_answer : List Watch → ℕ → ℕ → Result (Unit {0}) Refusal

@@ -1,10 +1,11 @@
 //! The rows of watches.
-ghost use Rattle.std.specs.Prelude.{◌≡◌, [], ◌∷◌, ◌+◌, ◌<◌, ◌≤◌, ◌++◌, length, All, IfOk, OnOk, OnErr, vec_capacity};
+ghost use Rattle.std.specs.Prelude.{◌≡◌, [], ◌+◌, ◌<◌, ◌≤◌, ◌++◌, length, All, IfOk, OnOk, OnErr, vec_capacity};
 ghost use Rattle.arrayvec.specs.ArrayVec.{array_vec_len};
 ghost use Rattle.irq_base.specs.Counts.{signalled_all};
+ghost use Rattle.irq_base.specs.Room.{with_told};
 ghost use Rattle.ack_notifiers.specs.Rows.{watch_answer, unwatch_answer, with_row, without_row, has_row, has_watch, has_counter, watched, watch_events};
 
-use irq_base::{Event, Events, NoMemory, Refusal, Status, Tally};
+use irq_base::{Event, Events, NoMemory, Refusal, Tally, tell};
 use std::alloc::Global;
 use std::marker::Model;
 
@@ -72,7 +73,7 @@ impl Watches {
         if has_row(self.rows.as_slice(), counter, gsi) {
             return Err(Refusal::Exists);
         }
-        if self.rows.len() == ROOM {
+        if self.rows.len() >= ROOM {
             return Err(Refusal::Full);
         }
         match self.rows.push(Watch { counter, gsi }) {
@@ -108,13 +109,20 @@ impl Watches {
         self.rows.iter().any(|row| row.counter == counter)
     }
 
-    /// Signals the counter of each watch of that GSI, in order of registration, with its event. There is room for these
-    /// events, and the counters are there.
+    /// The rows, in order of registration.
+    pub fn rows(&self) -> &[Watch]
+        ensures { result.now ≡ self.now }
+    {
+        self.rows.as_slice()
+    }
+
+    /// Signals the counter of each watch of that GSI, in order of registration, with its event. The counters are there; an
+    /// event that finds no room is left out.
     pub fn on_ack<C: Tally>(&self, gsi: u16, counters: &mut C, events: &mut Events)
-        requires room { array_vec_len events.old + length (watched self.now gsi) ≤ 640 }
         requires each { All (λ counter. counter < length (C.counts counters.old)) (watched self.now gsi) }
         ensures counts { C.counts counters.new ≡ signalled_all (C.counts counters.old) (watched self.now gsi) }
-        ensures events { events.new.items ≡ events.old.items ++ watch_events self.now gsi }
+        ensures events { events.new.items ≡ with_told events.old.items (watch_events self.now gsi) }
+        ensures all { array_vec_len events.old + length (watched self.now gsi) ≤ 640 → events.new.items ≡ events.old.items ++ watch_events self.now gsi }
     {
         signal_rows(self.rows.as_slice(), gsi, counters, events);
     }
@@ -133,10 +141,9 @@ impl Watches {
 
 // Signals the counter of each row of that GSI, in order, with its event.
 fn signal_rows<C: Tally>(rows: &[Watch], gsi: u16, counters: &mut C, events: &mut Events)
-    requires room { array_vec_len events.old + length (watched rows.now gsi) ≤ 640 }
     requires each { All (λ counter. counter < length (C.counts counters.old)) (watched rows.now gsi) }
     ensures counts { C.counts counters.new ≡ signalled_all (C.counts counters.old) (watched rows.now gsi) }
-    ensures events { events.new.items ≡ events.old.items ++ watch_events rows.now gsi }
+    ensures events { events.new.items ≡ with_told events.old.items (watch_events rows.now gsi) }
 {
     for row in rows {
         if row.gsi == gsi {
@@ -144,13 +151,6 @@ fn signal_rows<C: Tally>(rows: &[Watch], gsi: u16, counters: &mut C, events: &mu
             tell(Event::Watched(row.counter), events);
         }
     }
-}
-
-// Appends an event. The check knows `Status`, a part of `Event`, only where it is named.
-fn tell(event: Event, events: &mut Events)
-    requires { array_vec_len events.old < 640 }
-    ensures { events.new.items ≡ events.old.items ++ event ∷ [] }
-{
-    let _named: Option<Status> = None;
-    events.push(event);
+    // An `ArrayVec` says here that it holds no more than it has room for.
+    let _within_room = events.is_full();
 }

@@ -67,6 +67,13 @@ impl BoardRig {
         self.wish = Some(wish);
     }
 
+    /// The parts as they are now.
+    pub fn all(&self) -> &Parts
+        ensures { result.now ≡ self.now.parts }
+    {
+        &self.parts
+    }
+
     /// The parts as they are now, and the words.
     pub fn into_parts(self) -> (Parts, Words)
         ensures parts { result.0 ≡ self.parts }

@@ -6,7 +6,7 @@ ghost use Rattle.std.specs.Prelude.{◌≡◌, ◌≤◌, ◌<◌, length, IfOk}
 
 use Step::*;
 use ack_notifiers::Watches;
-use board_raise::{Lacks, LapicRow, BoardRig, Parts, RegistryPart, Rig, Words, send};
+use board_raise::{BoardRig, Lacks, LapicRow, Parts, RegistryPart, Rig, Words, send};
 use ioevent_set::IoEvents;
 use irq_base::{Cause, Message, Mode, NoMemory, Part, Status};
 use irq_bits::CpuSet;

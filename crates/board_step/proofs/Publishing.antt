@@ -26,9 +26,10 @@ use Rattle.board_step.specs.Calls.{number_of, plan_in_range}
 use Rattle.board_step.specs.Step.{later_reasons, refusal_of, does_publish, publishes_unless, would_publish, plan_on, outcome_of, with_counts, counted, is_done, is_removed, did_publish, is_publication}
 use Rattle.board_step.specs.Reach.{reach, of_call}
 use Rattle.board_step.specs.History.{opening}
-use Rattle.board_step.specs.Publications.{StepsShowPublications, PublicationsReachTheRegistry, StepsKeepTheFrame, HistoriesKeepTheFrame, LegalHistoriesCount}
+use Rattle.board_step.specs.Publications.{StepsShowPublications, PublicationsReachTheRegistry, StepsKeepTheFrame, HistoriesKeepTheFrame, LegalHistoriesCount, spent_by, LimitsAreTold, words, WordsStayAlong}
 use Rattle.board_step.proofs.Refusing.{refuses_first}
 use Rattle.board_step.proofs.SoundOpening.{apics_many}
+use Rattle.board_step.proofs.WordsStay.{words_stay}
 
 -- ---- reasons
 
@@ -194,3 +195,19 @@ legal_histories_count shape es last leads =
       length = after.length ∙ zero-add (length es);
       publications = after.publications ∙ zero-add (count_by is_publication es);
     }
+
+pub limits_are_told : LimitsAreTold
+limits_are_told shape es last call leads =
+    let after = legal_histories_count shape es last leads in
+    λ i. spent_by (after.shape i) (after.length i) (after.publications i) (would_publish last call)
+
+pub words_stay_along : WordsStayAlong
+words_stay_along b [] c same none = ap words (sym same)
+words_stay_along b (e ∷ es) c (next, step, later) none =
+    by_entry (words_stay_along next es c later) (is_publication e) refl (sym (sum_by-cons (λ x. cond (is_publication x) 1 0) e es) ∙ none)
+  where
+    by_entry : (count_by is_publication es ≡ 0 → words c ≡ words next) → (t : Bool) → is_publication e ≡ t → cond t 1 0 + count_by is_publication es ≡ 0 → words c ≡ words b
+    by_entry again true is none = absurd (omega arith)
+    by_entry again false is none =
+        again (let n : count_by is_publication es ≡ 0 = omega arith in n)
+        ∙ words_stay b e next step (steps_show_publications b e next step ∙ is)

@@ -60,7 +60,7 @@ row_agreed (place ∷ row) (a ∷ apics) many full stand = λ i.
     agreed place a (full 0 (omega arith)) (stand 0) i ∷ row_agreed row apics (omega (arith, many)) (rest_full place row full) (λ n v there. stand (suc n) v there) i
 
 -- a place below the processors is a part
-below_is : (n cpus : ℕ) → n < cpus → nat_lt n cpus ≡ true
+pub below_is : (n cpus : ℕ) → n < cpus → nat_lt n cpus ≡ true
 below_is n cpus low = grind arith
 
 below_of : (n cpus : ℕ) → nat_lt n cpus ≡ true → n < cpus

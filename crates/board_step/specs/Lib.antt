@@ -12,3 +12,6 @@ pub mod History
 pub mod Laws
 pub mod Bodies
 pub mod Whole
+pub mod Opening
+pub mod Owned
+pub mod Due

@@ -1,13 +1,17 @@
 -- What shows of publications, and what steps and histories leave of a board's frame (over this board's own definitions).
-use Rattle.std.specs.Prelude.{◌≡◌, ℕ, ◌+◌, ◌<◌, true, if◌then◌else◌, List, length, count_by}
+use Rattle.std.specs.Prelude.{◌≡◌, ℕ, ◌+◌, ◌<◌, Bool, true, ◌&&◌, nat_eq, if◌then◌else◌, List, length, count_by, Some, None}
+use Rattle.std.specs.declared.option.Option.{Option}
 use Rattle.irq_base.specs.Callers.{is_allowed}
 use Rattle.irq_base.specs.declared.call.Call.{Call}
 use Rattle.irq_base.specs.declared.call.Caller.{Caller}
 use Rattle.irq_base.specs.declared.lists.Entry.{Entry}
+use Rattle.irq_base.specs.declared.reply.Spent.{Spent}
+use Rattle.irq_base.specs.declared.reply.Spent.TheVariants.{Calls, Publications}
 use Rattle.irq_base.specs.declared.shape.Part.TheVariants.{Registry, Lapic}
 use Rattle.irq_base.specs.declared.shape.Shape.{Shape}
 use Rattle.board_model.specs.Board.{Board}
-use Rattle.board_step.specs.Step.{would_publish, is_publication, Step}
+use Rattle.board_model.specs.Published.{published}
+use Rattle.board_step.specs.Step.{would_publish, spent_of, is_publication, Step}
 use Rattle.board_step.specs.Reach.{reach}
 use Rattle.board_step.specs.History.{opening, Leads}
 
@@ -56,6 +60,30 @@ pub record IsFrameAfter (first : Shape) (es : List Entry) (last : Board) : Type 
 -- each board of a legal history has that frame
 abbrev pub LegalHistoriesCount : Type 0
 LegalHistoriesCount = (shape : Shape) (es : List Entry) (last : Board) → Leads (opening shape) es last → IsFrameAfter shape es last
+
+-- ---- along histories
+
+-- which limit bars a call after so many calls, so many of them publications
+abbrev pub spent_by : Shape → ℕ → ℕ → Bool → Option Spent
+spent_by shape calls publications publishes =
+    if nat_eq calls shape.calls then Some (Calls shape.calls)
+    else if publishes && nat_eq publications shape.publications then Some (Publications shape.publications)
+    else None
+
+-- after a legal history its entries tell which limit bars a call
+abbrev pub LimitsAreTold : Type 0
+LimitsAreTold =
+    (shape : Shape) (es : List Entry) (last : Board) (call : Call) → Leads (opening shape) es last
+    → spent_of last call ≡ spent_by shape (length es) (count_by is_publication es) (would_publish last call)
+
+-- what a board publishes
+abbrev pub words : Board → List ℕ
+words b = published b.registry b.shape.tick
+
+-- a history without a publication leaves the words
+abbrev pub WordsStayAlong : Type 0
+WordsStayAlong =
+    (b : Board) (es : List Entry) (c : Board) → Leads b es c → count_by is_publication es ≡ 0 → words c ≡ words b
 
 -- ---- what is reached is there
 

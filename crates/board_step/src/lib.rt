@@ -2,26 +2,36 @@
 //!
 //! Reading order of the definitions: `Refusals` (why a call is refused), `Registrations`, `Ticks`, `Processors` and `Accesses`
 //! (what each call does), `Calls` (all of them), `Step` (one call is one step), `Reach`, `Sound`, `History`, and then what holds
-//! of every step: `Laws`. The functions here do nothing; the contract of each is a law. What holds along every legal history
-//! stands in `board_laws`.
+//! of every step: `Laws`, `Publications`; what a body is worth that runs a call on parts in hand: `Bodies`; the board of all
+//! parts: `Whole`, `Opening`, `Owned`, `Due`. What holds along every legal history stands in `board_laws`.
+//!
+//! `Board` is the board on one thread. The functions without a body are laws: the contract of each is what holds.
 #![tactic(auto)]
 
+mod board;
 mod bodies;
+mod due;
 mod laws;
+mod open;
+mod opening;
 mod publications;
 mod reach;
 mod sound;
 mod typed;
 mod whole;
 
+pub use board::Board;
 pub use bodies::{bodies_step, done_leads};
+pub use due::Due;
 pub use laws::{
     always_answers, answers_once, board_after_is_reached, calls_steadily, leads_to_one,
     refused_rightly, refuses_first, steps_are_followed, steps_tell_few, words_stay,
 };
+pub use open::OpenError;
 pub use publications::{
-    histories_keep_the_frame, legal_histories_count, publications_reach_the_registry,
-    reach_is_there, steps_keep_the_frame, steps_show_publications,
+    histories_keep_the_frame, legal_histories_count, limits_are_told,
+    publications_reach_the_registry, reach_is_there, steps_keep_the_frame, steps_show_publications,
+    words_stay_along,
 };
 pub use reach::{depends_on_reach, reach_is_table, stays_outside_reach};
 pub use sound::{histories_keep_sound, opening_is_sound, steps_keep_sound};

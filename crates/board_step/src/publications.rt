@@ -1,7 +1,7 @@
 //! The laws of publications and of a board's frame: functions with no body, the contract of each being a law.
 
 ghost use Rattle.board_step.specs.Publications.{StepsShowPublications, PublicationsReachTheRegistry, StepsKeepTheFrame};
-ghost use Rattle.board_step.specs.Publications.{HistoriesKeepTheFrame, LegalHistoriesCount, ReachIsThere};
+ghost use Rattle.board_step.specs.Publications.{HistoriesKeepTheFrame, LegalHistoriesCount, LimitsAreTold, WordsStayAlong, ReachIsThere};
 
 /// A law: whether a step is a publication shows in its entry.
 pub fn steps_show_publications()
@@ -32,6 +32,18 @@ pub fn histories_keep_the_frame()
 #[tactic(auto, using(crate::proofs::Publishing::legal_histories_count))]
 pub fn legal_histories_count()
     ensures { LegalHistoriesCount }
+{}
+
+/// A law: after a legal history its entries tell which limit bars a call.
+#[tactic(auto, using(crate::proofs::Publishing::limits_are_told))]
+pub fn limits_are_told()
+    ensures { LimitsAreTold }
+{}
+
+/// A law: a history without a publication leaves the published words.
+#[tactic(auto, using(crate::proofs::Publishing::words_stay_along))]
+pub fn words_stay_along()
+    ensures { WordsStayAlong }
 {}
 
 /// A law: each local APIC that an allowed call reaches is one of the board's processors.

@@ -41,12 +41,11 @@ may_add v had c k n x right legal held small room s (count, now) =
 
 -- a counter in hand has the sum, once the change was added
 pub sum_is : (v w : Seen) (c k n x : ℕ) → HasCount v → HasLegal v → HasCount w → HasLegal w → held_at k v.held ≡ Some x → is_some (held_at k w.held) ≡ true
-    → IfSome v.now (λ s. IfSome w.now (λ t. Counted s (Add c k n) t)) → held_at k w.held ≡ Some (x + n)
+    → ((s t : Counts) → v.now ≡ Some s → w.now ≡ Some t → Counted s (Add c k n) t) → held_at k w.held ≡ Some (x + n)
 sum_is v w c k n x right legal right' legal' held still follows =
     let (o, s, _, _, now, _) = legal in
     let (o', t, _, _, now', _) = legal' in
-    let step : Counted s (Add c k n) t = subst (λ p. IfSome p (λ t. Counted s (Add c k n) t)) now' (subst (λ p. IfSome p (λ s. IfSome w.now (λ t. Counted s (Add c k n) t))) now follows) in
-    let (x', at, small, is) = step.0 in
+    let (x', at, small, is) = (follows s t now now').0 in
     let same : x ≡ x' = some_is x x' (sym (counter_is v s k x right now held) ∙ at) in
     let (y, there) = has (held_at k w.held) still in
     let value : slice_get t.counters k ≡ Some (x' + n) = ap (λ l. slice_get l k) is ∙ get-same s.counters k (x' + n) x' at in
@@ -68,12 +67,11 @@ may_move v had c a b n x y right legal apart held held' low small room s (count,
 
 -- both counters in hand have their values, once the change was moved
 pub moved_are : (v w : Seen) (c a b n x y : ℕ) → HasCount v → HasLegal v → HasCount w → HasLegal w → held_at a v.held ≡ Some x → held_at b v.held ≡ Some y → is_some (held_at a w.held) ≡ true → is_some (held_at b w.held) ≡ true
-    → IfSome v.now (λ s. IfSome w.now (λ t. Counted s (Move c a b n) t)) → (held_at a w.held ≡ Some (x - n)) × (held_at b w.held ≡ Some (y + n))
+    → ((s t : Counts) → v.now ≡ Some s → w.now ≡ Some t → Counted s (Move c a b n) t) → (held_at a w.held ≡ Some (x - n)) × (held_at b w.held ≡ Some (y + n))
 moved_are v w c a b n x y right legal right' legal' held held' still still' follows =
     let (o, s, _, _, now, _) = legal in
     let (o', t, _, _, now', _) = legal' in
-    let step : Counted s (Move c a b n) t = subst (λ p. IfSome p (λ t. Counted s (Move c a b n) t)) now' (subst (λ p. IfSome p (λ s. IfSome w.now (λ t. Counted s (Move c a b n) t))) now follows) in
-    let (x', y', apart, at, bt, _, _, is) = step.0 in
+    let (x', y', apart, at, bt, _, _, is) = (follows s t now now').0 in
     let same : x ≡ x' = some_is x x' (sym (counter_is v s a x right now held) ∙ at) in
     let same' : y ≡ y' = some_is y y' (sym (counter_is v s b y right now held') ∙ bt) in
     let (z, there) = has (held_at a w.held) still in

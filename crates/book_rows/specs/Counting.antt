@@ -116,6 +116,9 @@ depends_on_reach o s u t h k e opens runs runs' (change, small, count) agree roo
 pub words_stay : (s : Counts) (e : Change) (t : Counts) → Counted s e t → false ≡ false → ◌≡◌ {A = List ℕ} [] []
 words_stay s e t h kept = refl
 
+pub width_stays : (s : Counts) (e : Change) (t : Counts) → Counted s e t → length {A = ℕ} [] ≡ length {A = ℕ} []
+width_stays s e t h = refl
+
 -- the changes of a state are counted
 pub changes-counted : (s : Counts) (h : List Change) (t : Counts) → Runs Counted s h t → t.changes ≡ s.changes + length h
 changes-counted s [] t runs = (let e = ap (λ (x : Counts). x.changes) runs in omega arith)

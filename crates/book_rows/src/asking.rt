@@ -4,6 +4,7 @@ ghost use Rattle.turn_book.specs.Hands.{held_at, held_without, slot_at};
 ghost use Rattle.turn_book.specs.Views.{view_of, slots_of, IsLegal, HoldsRight, AddsNoneOfOwn, SamePlace};
 ghost use Rattle.turn_book.specs.Plays.{IsLastLook, LeadsOn, HoldsReach};
 ghost use Rattle.book_rows.specs.Counting.{Counted, caller_of, reach_of};
+ghost use Rattle.book_rows.specs.declared.machine.Counts.{Counts};
 
 use crate::machine::{Change, Counting};
 use std::marker::Brand;
@@ -26,7 +27,7 @@ fn enter<N: Entering<Change>>(
     ensures book { pen.new.seat.table_id ≡ pen.old.seat.table_id }
     ensures at { IfOk result (λ at. at ≡ length (view_of pen.old.seat).seen) }
     ensures entered { IfOk result (λ at. (view_of pen.new.seat).seen ≡ (view_of pen.old.seat).seen ++ change ∷ []) }
-    ensures follows { IfOk result (λ at. IfSome (view_of pen.old.seat).now (λ s. IfSome (view_of pen.new.seat).now (λ t. Counted s change t))) }
+    ensures follows { IfOk result (λ at. (s t : Counts) → (view_of pen.old.seat).now ≡ Some s → (view_of pen.new.seat).now ≡ Some t → Counted s change t) }
     ensures lost { IfErr result (λ now. ((view_of pen.new.seat).held ≡ (view_of pen.old.seat).held) × AddsNoneOfOwn caller_of (view_of pen.old.seat) (view_of pen.new.seat)) }
     ensures holds { HoldsRight (λ s. s.counters) (view_of pen.new.seat) }
     ensures legal { IsLegal (λ s. s.changes ≡ 0) Counted (view_of pen.new.seat) }
@@ -52,7 +53,7 @@ pub fn change(
     ensures book { pen.new.seat.table_id ≡ pen.old.seat.table_id }
     ensures at { IfOk result (λ at. at ≡ length (view_of pen.old.seat).seen) }
     ensures entered { IfOk result (λ at. (view_of pen.new.seat).seen ≡ (view_of pen.old.seat).seen ++ change ∷ []) }
-    ensures follows { IfOk result (λ at. IfSome (view_of pen.old.seat).now (λ s. IfSome (view_of pen.new.seat).now (λ t. Counted s change t))) }
+    ensures follows { IfOk result (λ at. (s t : Counts) → (view_of pen.old.seat).now ≡ Some s → (view_of pen.new.seat).now ≡ Some t → Counted s change t) }
     ensures lost { IfErr result (λ now. ((view_of pen.new.seat).held ≡ (view_of pen.old.seat).held) × AddsNoneOfOwn caller_of (view_of pen.old.seat) (view_of pen.new.seat)) }
     ensures holds { HoldsRight (λ s. s.counters) (view_of pen.new.seat) }
     ensures legal { IsLegal (λ s. s.changes ≡ 0) Counted (view_of pen.new.seat) }

@@ -40,8 +40,8 @@ fn a_change_is_committed_and_left_by_the_book(rt: HostRuntime) -> Result<(), NoM
             })
     );
     book.join(&mut desk, pen);
-    let (parts, length) = book.close(desk);
-    assert!(rt; length == 2 && parts.as_slice() == [15, 27].as_slice());
+    let (parts, front) = book.close(desk);
+    assert!(rt; front.length == 2 && parts.as_slice() == [15, 27].as_slice());
     Ok(())
 }
 
@@ -57,8 +57,8 @@ fn a_note_carries_what_was_seen(rt: HostRuntime) -> Result<(), NoMemory> {
     book.join(&mut desk, three);
     book.join(&mut desk, two);
     book.join(&mut desk, one);
-    let (parts, length) = book.close(desk);
-    assert!(rt; length == 1 && parts.as_slice() == [1, 0].as_slice());
+    let (parts, front) = book.close(desk);
+    assert!(rt; front.length == 1 && parts.as_slice() == [1, 0].as_slice());
     Ok(())
 }
 

@@ -27,7 +27,7 @@ impl Machine for Counting {
     type State = Counts;
 
     ghost use Rattle.std.specs.Prelude.{◌≡◌, [], false};
-    ghost use Rattle.book_rows.specs.Counting.{Counted, caller_of, reach_of, has_room, one_step, count_stays, unreached_stays, depends_on_reach, words_stay, bounded};
+    ghost use Rattle.book_rows.specs.Counting.{Counted, caller_of, reach_of, has_room, one_step, count_stays, unreached_stays, depends_on_reach, words_stay, width_stays, bounded};
 
     ghost opens = { λ s. s.changes ≡ 0 };
 
@@ -56,6 +56,8 @@ impl Machine for Counting {
     ghost depends_on_reach = { depends_on_reach };
 
     ghost words_stay = { words_stay };
+
+    ghost width_stays = { width_stays };
 
     ghost bounded = { bounded };
 }

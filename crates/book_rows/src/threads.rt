@@ -60,7 +60,7 @@ fn two_threads_make_a_thousand_entries_each(rt: HostRuntime) -> Result<(), NoMem
     );
     book.join(&mut desk, one);
     book.join(&mut desk, two);
-    let (parts, length) = book.close(desk);
-    assert!(rt; length == 2000 && parts.as_slice() == [1000, 1000].as_slice());
+    let (parts, front) = book.close(desk);
+    assert!(rt; front.length == 2000 && parts.as_slice() == [1000, 1000].as_slice());
     Ok(())
 }

@@ -3,7 +3,7 @@ ghost use Rattle.std.specs.Prelude.{◌≡◌, ℕ, ◌<◌, IsTrue};
 ghost use Rattle.ioapic_82093aa.specs.Entries.{WordsTellTheEntry};
 ghost use Rattle.reg_table.specs.Rows.{ResetsAreReadable};
 ghost use Rattle.ioapic_82093aa.specs.Registers.{register_of, register_rows};
-ghost use Rattle.ioapic_82093aa.specs.Pins.{ioapic_at_power_on, read_from, write_to, word_of_register, register_written, raised, raise_of, lowered, pin_accepted, acknowledged, has_vector, resend_of, RegistersStartAsTold};
+ghost use Rattle.ioapic_82093aa.specs.Pins.{entry_at, ioapic_at_power_on, read_from, write_to, word_of_register, register_written, raised, raise_of, lowered, pin_accepted, acknowledged, has_vector, resend_of, RegistersStartAsTold};
 
 use crate::entry::Entry;
 use crate::pins::{PINS, Pin, Pins};
@@ -148,6 +148,14 @@ impl Ioapic {
     {
         let entry = &mut self.entries[pin as usize];
         entry.remote_irr = entry.level || entry.remote_irr;
+    }
+
+    /// Whether the entry of a pin, of 0 to 23, is level-triggered.
+    pub fn is_level(&self, pin: u8) -> bool
+        requires { pin < 24 }
+        ensures { result ≡ (entry_at self.now pin).level }
+    {
+        self.entries[pin as usize].level
     }
 
     /// Whether the entry of a pin, of 0 to 23, has that vector, masked or not.

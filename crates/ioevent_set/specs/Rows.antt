@@ -1,5 +1,5 @@
 -- The rows of ioeventfds (KVM_IOEVENTFD), a list in order of registration.
-use Rattle.std.specs.Prelude.{◌≡◌, ℕ, Bool, true, false, not, ◌&&◌, ◌||◌, nat_eq, if◌then◌else◌, List, length, filter, find, Option, Some, None, option_map, Result, Ok, Err, AllPairs}
+use Rattle.std.specs.Prelude.{◌≡◌, ℕ, Bool, true, false, not, ◌&&◌, ◌||◌, nat_eq, nat_le, if◌then◌else◌, List, length, filter, find, Option, Some, None, option_map, Result, Ok, Err, AllPairs}
 use Rattle.std.specs.List.{list_any}
 use Rattle.irq_base.specs.declared.call.Space.{Space}
 use Rattle.irq_base.specs.declared.call.Space.TheVariants.{Port, Memory}
@@ -60,7 +60,7 @@ without_row rows row = filter (λ other. not (is_same row other)) rows
 
 -- a row that collides with one is refused, and then any where 256 are there
 abbrev pub attach_answer : List IoRow → IoRow → Result (Unit {0}) Refusal
-attach_answer rows row = if list_any (λ other. do_collide other row) rows then Err Exists else if nat_eq (length rows) 256 then Err Full else Ok tt
+attach_answer rows row = if list_any (λ other. do_collide other row) rows then Err Exists else if nat_le 256 (length rows) then Err Full else Ok tt
 
 -- a row that is not there cannot end
 abbrev pub detach_answer : List IoRow → IoRow → Result (Unit {0}) Refusal

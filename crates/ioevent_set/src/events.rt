@@ -129,7 +129,7 @@ impl IoEvents {
         if collides(self.rows.as_slice(), &row) {
             return Err(Refusal::Exists);
         }
-        if self.rows.len() == ROOM {
+        if self.rows.len() >= ROOM {
             return Err(Refusal::Full);
         }
         let place = place_after(self.by_address.as_slice(), row.address);

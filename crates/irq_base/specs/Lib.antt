@@ -3,3 +3,4 @@ pub mod Counts
 pub mod Faces
 pub mod Refusals
 pub mod Text
+pub mod Room

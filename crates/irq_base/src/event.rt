@@ -1,4 +1,7 @@
 //! What happens on a board besides the answer of a call.
+ghost use Rattle.std.specs.Prelude.{◌≡◌, [], ◌∷◌};
+ghost use Rattle.irq_base.specs.Room.{with_told};
+
 use crate::status::Status;
 use arrayvec::ArrayVec;
 use std::fmt;
@@ -31,6 +34,19 @@ pub enum Event {
 
 /// The events of one call: never more than 560.
 pub type Events = ArrayVec<Event, 640>;
+
+/// Tells an event after the others. One that finds no room is left out.
+//
+// The check knows `Status`, a part of `Event`, only where it is named.
+#[tactic(auto, using(crate::proofs::Room::told_one, crate::proofs::Room::told_past_one))]
+pub fn tell(event: Event, events: &mut Events)
+    ensures { events.new.items ≡ with_told events.old.items (event ∷ []) }
+{
+    let _named: Option<Status> = None;
+    if !events.is_full() {
+        events.push(event);
+    }
+}
 
 // An `ArrayVec` fills its unused places with this.
 impl Default for Event {

@@ -18,7 +18,7 @@ mod status;
 mod tally;
 
 pub use call::{Call, Caller, Row, Space};
-pub use event::{Event, Events, Pin};
+pub use event::{Event, Events, Pin, tell};
 pub use face::{Face, Stops};
 pub use fault::LineCause;
 pub use lists::{Bytes, Entry, EventList, History, Items, NoMemory, Rows};

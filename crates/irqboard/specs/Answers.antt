@@ -1,5 +1,5 @@
 -- What the program answers, and when.
-use Rattle.std.specs.Prelude.{◌≡◌, ℕ, ◌<◌, ◌≤◌, Bool, false, List, [], ◌∷◌, ◌++◌, length, take, codes, Ok, Err, Some, None}
+use Rattle.std.specs.Prelude.{◌≡◌, ℕ, ◌≤◌, Bool, false, List, [], ◌∷◌, ◌++◌, length, take, codes, Ok, Err, Some, None}
 use Rattle.std.specs.declared.option.Option.{Option}
 use Rattle.std.specs.Fmt.{decimal}
 use Rattle.irq_base.specs.declared.call.Call.{Call}
@@ -10,7 +10,7 @@ use Rattle.irqboard.specs.SmallForm.{script_of}
 use Rattle.irqboard.specs.Board.{opening, history}
 use Rattle.irqboard.specs.Scripts.{script_text}
 use Rattle.irqboard.specs.Transcript.{transcript_text}
-use Rattle.irqboard.specs.Input.{HasRead}
+use Rattle.irqboard.specs.Input.{IsBeyond, HasRead}
 use Rattle.irqboard.specs.declared.outcome.Outcome.{Outcome}
 use Rattle.irqboard.specs.declared.outcome.Outcome.TheVariants.{Fine, Usage, BadInput, ReadFault, WriteFault, NoMemory, TooLong}
 
@@ -34,14 +34,22 @@ message_of WriteFault = codes "write fault"
 message_of NoMemory = codes "no memory"
 message_of (TooLong bytes) = codes "input longer than 16777216 bytes"
 
+-- what is said on standard error: the line with its line feed, or nothing
+abbrev pub with_feed : List ℕ → List ℕ
+with_feed [] = []
+with_feed (b ∷ bs) = (b ∷ bs) ++ codes "\n"
+
+abbrev pub said_of : Outcome → List ℕ
+said_of outcome = with_feed (message_of outcome)
+
 -- the words are the one word `replay`
 abbrev pub is_replay : List (List ℕ) → Bool
 is_replay (word ∷ []) = same_text word (codes "replay")
 is_replay _ = false
 
--- more than the limit was read exactly where that is the answer; where the words are none, nothing was read
+-- more than the limit was read, by at most 4,096 bytes, exactly where that is the answer; where the words are none, nothing was read
 abbrev pub ReadsRightly : Option (List ℕ) → Option (List ℕ) → Outcome → Type 0
-ReadsRightly old new (TooLong bytes) = (16777216 < bytes) × HasRead old new (λ n. n ≡ bytes)
+ReadsRightly old new (TooLong bytes) = IsBeyond bytes × HasRead old new (λ n. n ≡ bytes)
 ReadsRightly old new Usage = new ≡ old
 ReadsRightly old new _ = HasRead old new (λ n. n ≤ 16777216)
 

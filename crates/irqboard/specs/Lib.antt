@@ -8,3 +8,4 @@ pub mod Transcript
 pub mod Board
 pub mod Answers
 pub mod Scripts
+pub mod Words

@@ -1,9 +1,36 @@
 //! What the program answers.
-ghost use Rattle.std.specs.Prelude.{◌≡◌};
-ghost use Rattle.irqboard.specs.Answers.{status_of};
+ghost use Rattle.std.specs.Prelude.{◌≡◌, ◌<◌, ◌≤◌, [], length};
+ghost use Rattle.irq_base.specs.Text.{line_cause_text};
+ghost use Rattle.irqboard.specs.Answers.{status_of, message_of, said_of};
 
+use arrayvec::ArrayString;
 use irq_base::LineCause;
+use itoa::Buffer;
 use std::fmt;
+
+// The words that the program is to have.
+const USAGE: &str =
+    "usage: irqboard replay | run | check | gen START LINES CPUS | sum START LINES CPUS";
+
+/// The room for a line on standard error.
+pub const LINE_ROOM: usize = 256;
+
+// The word of a cause.
+fn word_of(cause: LineCause) -> &'static str
+    ensures word { result.now ≡ line_cause_text cause }
+    ensures short { length result.now ≤ 8 }
+{
+    match cause {
+        LineCause::Cut => "cut",
+        LineCause::Char => "char",
+        LineCause::End => "end",
+        LineCause::Word => "word",
+        LineCause::Count => "count",
+        LineCause::Number => "number",
+        LineCause::Actor => "actor",
+        LineCause::Unbuilt => "unbuilt",
+    }
+}
 
 /// What came of a run of the program.
 #[derive(Clone, Copy, Debug, PartialEq, Eq)]
@@ -39,6 +66,49 @@ impl Outcome {
             Outcome::TooLong { .. } => 6,
         }
     }
+
+    // Puts the line for standard error, without its line feed, into the room.
+    fn put_line(&self, room: &mut ArrayString<LINE_ROOM>)
+        requires { room.old.bytes ≡ [] }
+        ensures line { room.new.bytes ≡ message_of self.now }
+        ensures short { length room.new.bytes < LINE_ROOM }
+    {
+        match self {
+            Outcome::Fine => {}
+            Outcome::Usage => room.push_str(USAGE),
+            Outcome::BadInput { line, cause } => {
+                room.push_str("line ");
+                room.push_str(Buffer::new().format(*line));
+                room.push_str(": ");
+                room.push_str(word_of(*cause));
+            }
+            Outcome::ReadFault => room.push_str("read fault"),
+            Outcome::WriteFault => room.push_str("write fault"),
+            Outcome::NoMemory => room.push_str("no memory"),
+            Outcome::TooLong { .. } => room.push_str("input longer than 16777216 bytes"),
+        }
+    }
+
+    /// The line for standard error, without its line feed; nothing where there is none.
+    pub fn line(&self) -> ArrayString<LINE_ROOM>
+        ensures line { result.bytes ≡ message_of self.now }
+        ensures short { length result.bytes < LINE_ROOM }
+    {
+        let mut room = ArrayString::new();
+        self.put_line(&mut room);
+        room
+    }
+
+    /// What is said on standard error: the line with its line feed, or nothing.
+    pub fn said(&self) -> ArrayString<LINE_ROOM>
+        ensures { result.bytes ≡ said_of self.now }
+    {
+        let mut line = self.line();
+        if !line.is_empty() {
+            line.push('\n');
+        }
+        line
+    }
 }
 
 /// The line for standard error, without its line feed; nothing where there is none.
@@ -49,17 +119,6 @@ impl fmt::Display for Outcome {
     ghost output = { λ outcome. Some (message_of outcome) };
 
     fn fmt<W: fmt::Write>(&self, f: &mut fmt::Formatter<W>) -> fmt::Result {
-        match self {
-            Outcome::Fine => Ok(()),
-            Outcome::Usage => write!(
-                f,
-                "usage: irqboard replay | run | check | gen START LINES CPUS | sum START LINES CPUS"
-            ),
-            Outcome::BadInput { line, cause } => write!(f, "line {line}: {cause}"),
-            Outcome::ReadFault => write!(f, "read fault"),
-            Outcome::WriteFault => write!(f, "write fault"),
-            Outcome::NoMemory => write!(f, "no memory"),
-            Outcome::TooLong { .. } => write!(f, "input longer than 16777216 bytes"),
-        }
+        f.write_str(self.line().as_str())
     }
 }

@@ -1,5 +1,5 @@
 //! The whole input.
-ghost use Rattle.std.specs.Prelude.{◌≡◌, ℕ, ◌≤◌, List, length, IfOk, IfErr, Err};
+ghost use Rattle.std.specs.Prelude.{◌≡◌, ◌≢◌, ℕ, ◌≤◌, List, length, IfOk, IfErr, Err};
 ghost use Rattle.std.specs.Io.KnownBytes.{Consumes, IsAtEnd};
 ghost use Rattle.io_edge.specs.Faults.{Rose};
 ghost use Rattle.irqboard.specs.Input.{StopsRightly};
@@ -29,6 +29,7 @@ pub fn read_whole<S: Source>(alloc: Global, source: &mut S) -> Result<Vec<u8>, S
     ensures stop { IfErr result (StopsRightly (S.left source.old) (S.left source.new)) }
     ensures later { S.faults source.old ≤ S.faults source.new }
     ensures fault { result ≡ Err Stop.Fault → Rose (S.faults source.old) (S.faults source.new) }
+    ensures kept { result ≢ Err Stop.Fault → S.faults source.new ≡ S.faults source.old }
 {
     let mut bytes = Vec::new(alloc);
     let mut room = [0u8; 4096];

@@ -22,7 +22,12 @@ pub fn replay<S: Source, K: Sink>(alloc: Global, source: &mut S, sink: &mut K) -
     ensures output { WritesRightly (S.left source.old) (K.holds sink.old) (K.holds sink.new) result }
     ensures read_fault { result ≡ Outcome.ReadFault → Rose (S.faults source.old) (S.faults source.new) }
     ensures write_fault { result ≡ Outcome.WriteFault → Rose (K.faults sink.old) (K.faults sink.new) }
-    ensures complete { IsGood (S.left source.old) → ¬ Rose (S.faults source.old) (S.faults source.new) → ¬ Rose (K.faults sink.old) (K.faults sink.new) → IsDone result }
+    ensures source_faults { result ≢ Outcome.ReadFault → S.faults source.new ≡ S.faults source.old }
+    ensures sink_faults { result ≢ Outcome.WriteFault → K.faults sink.new ≡ K.faults sink.old }
+    ensures complete { IsGood (S.left source.old)
+        → ¬ Rose (S.faults source.old) (S.faults source.new)
+        → ¬ Rose (K.faults sink.old) (K.faults sink.new)
+        → IsDone result }
 {
     let input = match read_whole(alloc, source) {
         Ok(input) => input,
@@ -77,7 +82,13 @@ pub fn irqboard<S: Source, K: Sink, G: Gate>(
     ensures output { WritesRightly (S.left source.old) (K.holds sink.old) (K.holds sink.new) result }
     ensures read_fault { result ≡ Outcome.ReadFault → Rose (S.faults source.old) (S.faults source.new) }
     ensures write_fault { result ≡ Outcome.WriteFault → Rose (K.faults sink.old) (K.faults sink.new) }
-    ensures complete { IsTrue (is_replay words.now) → IsGood (S.left source.old) → ¬ Rose (S.faults source.old) (S.faults source.new) → ¬ Rose (K.faults sink.old) (K.faults sink.new) → IsDone result }
+    ensures source_faults { result ≢ Outcome.ReadFault → S.faults source.new ≡ S.faults source.old }
+    ensures sink_faults { result ≢ Outcome.WriteFault → K.faults sink.new ≡ K.faults sink.old }
+    ensures complete { IsTrue (is_replay words.now)
+        → IsGood (S.left source.old)
+        → ¬ Rose (S.faults source.old) (S.faults source.new)
+        → ¬ Rose (K.faults sink.old) (K.faults sink.new)
+        → IsDone result }
 {
     if is_replay(words) {
         replay(alloc, source, sink)

@@ -12,6 +12,7 @@ pub fn write_whole<K: Sink>(sink: &mut K, text: &[u8]) -> Result<(), Failed>
     ensures front { OnErr result (AppendsFront (K.holds sink.old) (K.holds sink.new) text.now) }
     ensures later { K.faults sink.old ≤ K.faults sink.new }
     ensures fault { OnErr result (Rose (K.faults sink.old) (K.faults sink.new)) }
+    ensures kept { OnOk result (K.faults sink.new ≡ K.faults sink.old) }
 {
     let mut done = 0;
     'turns: for _turn in 0..text.len() {

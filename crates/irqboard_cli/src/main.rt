@@ -1,34 +1,21 @@
-//! The program: the real ends, and the top call over them.
+//! The program: the top call over the real ends and the words of the command line.
 #![tactic(auto)]
 
-use io_edge::{OpenGate, StdSink, StdSource, Word};
-use irqboard::{Outcome, irqboard};
-use std::alloc::AllocError;
-use std::process::ExitCode;
-use std::{env, io};
+use io_edge::{OpenGate, StdSink, StdSource};
+use irqboard::{Ended, asked};
+use std::env;
 
-// The words of the command line, without the program's name.
-fn words_of(rt: &HostRuntime) -> io::Result<Vec<Word>> {
-    let mut words = Vec::new(rt.alloc());
-    for text in env::args(rt)?.skip(1) {
-        words.push(Word::of(text)).map_err(AllocError::from)?;
-    }
-    Ok(words)
-}
-
-fn main(rt: HostRuntime) -> io::Result<ExitCode> {
-    let words = words_of(&rt)?;
-    let mut source = StdSource::new(rt.reader());
-    let mut sink = StdSink::new(&rt);
-    let outcome = irqboard(
+// A run can end in no other way than by what was asked, said and given as the exit status: `Ended` is made by these alone.
+fn main(rt: HostRuntime) -> Ended {
+    let mut source = StdSource::new(rt.stdin());
+    let mut sink = StdSink::new(rt.stdout());
+    let mut errors = StdSink::new(rt.stderr());
+    let answered = asked(
         rt.alloc(),
-        words.as_slice(),
+        env::args(&rt),
         &mut source,
         &mut sink,
         &OpenGate,
     );
-    if outcome != Outcome::Fine {
-        eprintln!(rt; "{outcome}")?;
-    }
-    Ok(ExitCode::from(outcome.status()))
+    answered.said(&mut errors)
 }

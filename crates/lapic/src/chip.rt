@@ -296,6 +296,20 @@ impl Lapic {
         Effect::Plain
     }
 
+    /// The same local APIC once more.
+    pub fn copy(&self) -> Lapic
+        ensures { result ≡ self.now }
+    {
+        Lapic {
+            number: self.number,
+            irr: self.irr.copy(),
+            isr: self.isr.copy(),
+            tmr: self.tmr.copy(),
+            nmi: self.nmi,
+            registers: self.registers,
+        }
+    }
+
     /// Makes the APIC equal to the other.
     pub fn copy_from(&mut self, other: &Lapic)
         ensures { self.new ≡ other.now }

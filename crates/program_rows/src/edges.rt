@@ -5,7 +5,8 @@ use irq_base::LineCause;
 use irqboard::Outcome;
 use std::test::Fail;
 
-const USAGE: &str =
+// The usage line.
+pub const USAGE: &str =
     "usage: irqboard replay | run | check | gen START LINES CPUS | sum START LINES CPUS";
 
 // Answers with their statuses and their lines for standard error.

@@ -10,11 +10,20 @@ pub const FIRST_SCRIPT: &str =
 pub const FIRST_TRANSCRIPT: &str =
     "transcript 1\n0 cpu0 store fee000f0 4 000001ff -> done\n1 cpu0 msi fee00000 00000041 -> delivered new=1 stood=0 pic=0\n2 cpu0 ack -> vector 41\n3 cpu0 eoi -> ended 41\nend 4\n";
 
-/// The words of a command line, which spaces part here.
+/// The texts of a command line, which spaces part here.
+pub fn texts(alloc: Global, line: &str) -> Result<Vec<String>, AllocError> {
+    let mut texts = Vec::new(alloc);
+    for text in line.split_whitespace() {
+        texts.push(String::from_str(alloc, text)?)?;
+    }
+    Ok(texts)
+}
+
+/// The words of a command line without its name.
 pub fn words(alloc: Global, line: &str) -> Result<Vec<Word>, AllocError> {
     let mut words = Vec::new(alloc);
-    for text in line.split_whitespace() {
-        words.push(Word::of(String::from_str(alloc, text)?))?;
+    for text in texts(alloc, line)? {
+        words.push(Word::of(text))?;
     }
     Ok(words)
 }

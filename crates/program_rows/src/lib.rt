@@ -7,3 +7,5 @@ mod edges;
 mod ends;
 #[cfg(test)]
 mod replays;
+#[cfg(test)]
+mod runs;

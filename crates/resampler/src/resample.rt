@@ -1,20 +1,21 @@
 //! The signals of resample counters at an acknowledge.
-ghost use Rattle.std.specs.Prelude.{◌≡◌, ◌+◌, ◌<◌, ◌≤◌, [], ◌∷◌, ◌++◌, length, All};
+ghost use Rattle.std.specs.Prelude.{◌≡◌, ◌+◌, ◌<◌, ◌≤◌, ◌++◌, length, All};
 ghost use Rattle.arrayvec.specs.ArrayVec.{array_vec_len};
 ghost use Rattle.irq_base.specs.Counts.{signalled_all};
+ghost use Rattle.irq_base.specs.Room.{with_told};
 ghost use Rattle.resampler.specs.Resample.{resample_of, resampled, resample_events};
 
 use event_counter::Counters;
-use irq_base::{Event, Events, Status};
+use irq_base::{Event, Events, tell};
 use irqfd_set::{Irqfd, Irqfds};
 
-/// Signals each resample counter of that GSI, in order of registration, with its event. There is room for these events,
-/// and the counters are there.
+/// Signals each resample counter of that GSI, in order of registration, with its event. The counters are there; an event that
+/// finds no room is left out.
 pub fn on_ack(irqfds: &Irqfds, gsi: u16, counters: &mut Counters, events: &mut Events)
-    requires room { array_vec_len events.old + length (resampled irqfds.now gsi) ≤ 640 }
     requires each { All (λ counter. counter < length counters.old) (resampled irqfds.now gsi) }
     ensures counts { counters.new ≡ signalled_all counters.old (resampled irqfds.now gsi) }
-    ensures events { events.new.items ≡ events.old.items ++ resample_events irqfds.now gsi }
+    ensures events { events.new.items ≡ with_told events.old.items (resample_events irqfds.now gsi) }
+    ensures all { array_vec_len events.old + length (resampled irqfds.now gsi) ≤ 640 → events.new.items ≡ events.old.items ++ resample_events irqfds.now gsi }
 {
     for row in irqfds.rows() {
         if let Some(counter) = resample_of(row, gsi) {
@@ -22,15 +23,8 @@ pub fn on_ack(irqfds: &Irqfds, gsi: u16, counters: &mut Counters, events: &mut E
             tell(Event::Resampled(counter), events);
         }
     }
-}
-
-// Appends an event. The check knows `Status`, a part of `Event`, only where it is named.
-fn tell(event: Event, events: &mut Events)
-    requires { array_vec_len events.old < 640 }
-    ensures { events.new.items ≡ events.old.items ++ event ∷ [] }
-{
-    let _named: Option<Status> = None;
-    events.push(event);
+    // An `ArrayVec` says here that it holds no more than it has room for.
+    let _within_room = events.is_full();
 }
 
 // The resample counter of a row, where the row is one of that GSI.

@@ -1,7 +1,6 @@
 -- The rows of a routing table at power-on keep the rules, as rules.
-use Rattle.std.specs.Prelude.{◌≡◌, ℕ, zero, suc, List, [], ◌∷◌, ◌++◌, None, refl}
+use Rattle.std.specs.Prelude.{◌≡◌, ℕ, [], ◌∷◌, ◌++◌, None, refl}
 use Rattle.std.proofs.Common.{◌+◌, add-one, append-nil, append_assoc, sym, ap, ◌∙◌}
-use Rattle.irq_base.specs.declared.call.Row.{Row}
 use Rattle.irq_base.specs.declared.call.Row.TheVariants.{Pic, Ioapic}
 use Rattle.route_table.specs.Rows.{gsi_in, pic_in, ioapic_in, msi_in, reasons_after, refusal_of}
 use Rattle.route_table.specs.Defaults.{pic_rows, ioapic_rows, default_rows}

@@ -1,5 +1,5 @@
 -- What words and pins that stand for rows answer, as rules.
-use Rattle.std.proofs.Common.{◌≡◌, ℕ, ◌-◌, ◌<◌, Bool, List, [], length, get_or, replicate, Some, None, IfSome, if◌then◌else◌, true, ◌||◌, inl, inr, refl, sym, ap, subst, ◌∙◌, arith}
+use Rattle.std.proofs.Common.{◌≡◌, ℕ, ◌+◌, ◌-◌, ◌^◌, ◌<◌, Bool, false, List, [], length, get_or, replicate, Some, None, IfSome, if◌then◌else◌, true, ◌||◌, inl, inr, refl, sym, ap, subst, ◌∙◌, arith}
 use Rattle.std.proofs.lemmas.Bool.Decides.{eqb_tells, leb_tells}
 use Rattle.std.specs.Prelude.{slice_index, IsTrue}
 use Rattle.std.specs.Option.{is_some}
@@ -9,8 +9,8 @@ use Rattle.std.proofs.lemmas.List.{get_or-replicate, get_or_past, length-replica
 use Rattle.irq_base.specs.declared.call.Row.{Row}
 use Rattle.irq_base.specs.declared.event.Pin.TheVariants.{Pic, Ioapic}
 use Rattle.irq_base.specs.declared.message.Targets.{Targets}
-use Rattle.route_table.specs.Words.{is_route, targets_in}
-use Rattle.route_table.proofs.WordLaws.{targets_in-route}
+use Rattle.route_table.specs.Words.{is_route, targets_word, targets_in}
+use Rattle.route_table.proofs.WordLaws.{targets_in-route, small_bits}
 use Rattle.route_table.specs.Rows.{reasons_after, gsi_in, pic_in, ioapic_in, has_target, first_given, refusal_of, table_of, targets_of}
 use Rattle.route_table.specs.Pins.{owner, gsi_of, gsi_told}
 use Rattle.route_table.proofs.Sound.{Sound, sound_of, owner-row}
@@ -21,7 +21,7 @@ use Rattle.route_table.proofs.TableLaws.{table_in-rows, targets_of-words, target
 -- words and pins of 0 stand for no rows
 pub stands_none : (words pics ioapics : List ℕ) → ((k : ℕ) → get_or words k 0 ≡ 0) → ((n : ℕ) → get_or pics n 0 ≡ 0) → ((n : ℕ) → get_or ioapics n 0 ≡ 0) → Stands words pics ioapics []
 unfolding targets_in first_given owner
-stands_none words pics ioapics no_word no_pic no_ioapic = record { routes = λ gsi. ap (λ w. (targets_in w).0) (no_word gsi); pic_owners = no_pic; ioapic_owners = no_ioapic }
+stands_none words pics ioapics no_word no_pic no_ioapic = record { encoded = λ gsi. no_word gsi ∙ ap (λ w. targets_word (targets_in w).0 false) (sym (no_word gsi)); routes = λ gsi. ap (λ w. (targets_in w).0) (no_word gsi); pic_owners = no_pic; ioapic_owners = no_ioapic }
 
 zeros_at : (n k : ℕ) → get_or {A = ℕ} (replicate n 0) k 0 ≡ 0
 zeros_at n k =
@@ -85,18 +85,18 @@ sends_to_routes words gsi =
 
 -- ---- a pin's word is in range
 
-word_low : (f : Row → Option ℕ) (rows : List Row) (n : ℕ) → Sound rows → owner f n rows < 4097
-word_low f rows n s =
+owner_low : (f : Row → Option ℕ) (rows : List Row) (n : ℕ) → Sound rows → owner f n rows < 4097
+owner_low f rows n s =
     elim (eqb_tells (owner f n rows) 0) [
       | inl h ↦ omega (arith, h.1)
       | inr h ↦ let found = owner-row f n rows (owner f n rows) refl h.1 in let low : gsi_in found.0 < 4096 = s.low found.0 found.1 in omega (arith, low, found.2)
     ]
 
 pub pic_low : (words spare pics ioapics : List ℕ) (n : ℕ) → IsTable words spare pics ioapics → get_or pics n 0 < 4097
-pic_low words spare pics ioapics n t = let low : owner pic_in n t.made.0 < 4097 = word_low pic_in t.made.0 n (sound_of t.made.0 t.made.2) in omega (arith, low, t.made.1.pic_owners n)
+pic_low words spare pics ioapics n t = let low : owner pic_in n t.made.0 < 4097 = owner_low pic_in t.made.0 n (sound_of t.made.0 t.made.2) in omega (arith, low, t.made.1.pic_owners n)
 
 pub ioapic_low : (words spare pics ioapics : List ℕ) (n : ℕ) → IsTable words spare pics ioapics → get_or ioapics n 0 < 4097
-ioapic_low words spare pics ioapics n t = let low : owner ioapic_in n t.made.0 < 4097 = word_low ioapic_in t.made.0 n (sound_of t.made.0 t.made.2) in omega (arith, low, t.made.1.ioapic_owners n)
+ioapic_low words spare pics ioapics n t = let low : owner ioapic_in n t.made.0 < 4097 = owner_low ioapic_in t.made.0 n (sound_of t.made.0 t.made.2) in omega (arith, low, t.made.1.ioapic_owners n)
 
 pub told_low : (v : ℕ) → v < 4097 → IfSome (gsi_told v) (λ gsi. gsi < 4096)
 told_low v low =
@@ -108,6 +108,20 @@ told_low v low =
 pub ruleset refill_rules = (stands_none)
 
 pub ruleset replace_rules = (zeros_16, zeros_24, is_table, same_table, table_in-rows, stands_none)
+
+-- the word of a GSI is that of its route, without a mark, and with the mark where bit 63 is added
+pub unmarked_word : (words spare pics ioapics : List ℕ) (gsi : ℕ) → IsTable words spare pics ioapics → gsi < 4096 → get_or words gsi 0 ≡ targets_word (targets_of (table_in words) gsi) false
+unmarked_word words spare pics ioapics gsi t low = t.made.1.encoded gsi ∙ ap (λ there. targets_word there false) (sym (targets_of-words words gsi low))
+
+pub marked_word : (words spare pics ioapics : List ℕ) (gsi : ℕ) → IsTable words spare pics ioapics → gsi < 4096 → get_or words gsi 0 + 2 ^ 63 ≡ targets_word (targets_of (table_in words) gsi) true
+marked_word words spare pics ioapics gsi t low = let word = unmarked_word words spare pics ioapics gsi t low in omega (arith, word)
+
+pub word_low : (words spare pics ioapics : List ℕ) (gsi : ℕ) → IsTable words spare pics ioapics → gsi < 4096 → get_or words gsi 0 < 2 ^ 63
+word_low words spare pics ioapics gsi t low =
+    let there = targets_of (table_in words) gsi in
+    let small = small_bits there.pic there.ioapic there.msi (sends_to_routes words gsi) in
+    let word = unmarked_word words spare pics ioapics gsi t low in
+    omega (arith, word, small)
 
 pub ruleset look_rules = (targets_of-words)
 

@@ -12,7 +12,7 @@ use Rattle.irq_base.specs.declared.call.Row.TheVariants.{Pic, Ioapic, Msi}
 use Rattle.irq_base.specs.declared.message.MsiWord.{MsiWord}
 use Rattle.irq_base.specs.declared.message.Targets.{Targets}
 use Rattle.irq_base.specs.declared.refusal.Refusal.TheVariants.{NoGsi, BadRow, ChipTwice, Mixed, PinTwice, BadMsi}
-use Rattle.route_table.specs.Words.{no_targets, is_below, is_route, is_route_of, targets_in}
+use Rattle.route_table.specs.Words.{no_targets, is_below, is_route, is_route_of, targets_word, targets_in}
 use Rattle.route_table.proofs.WordLaws.{targets_in-route, targets_in-encoded}
 use Rattle.route_table.specs.Rows.{gsi_in, pic_in, ioapic_in, msi_in, is_of, is_same, is_good_if, are_both, is_of_same_chip, has_message, is_same_pin, row_reasons, has_target, targets_by, first_given}
 use Rattle.route_table.proofs.RowLaws.{first_given-snoc, is_some-first_given, or_none}
@@ -166,6 +166,19 @@ owner_with f owners rows row same free n =
 pub stands-snoc : (words pics ioapics : List ℕ) (rows : List Row) (row : Row) → Stands words pics ioapics rows → Kept rows row → fits_if (msi_in row) ≡ true → length words ≡ 4096 → length pics ≡ 16 → length ioapics ≡ 24 →
     Stands (set words (gsi_in row) (word_with words row)) (with_owner pics (pic_in row) (gsi_in row)) (with_owner ioapics (ioapic_in row) (gsi_in row)) (rows ++ row ∷ [])
 stands-snoc words pics ioapics rows row s k fits long sixteen twenty_four = record {
+  encoded = λ gsi. elim (eqb_tells gsi (gsi_in row)) [
+    | inl h ↦
+        ap (λ q. get_or (set words (gsi_in row) (word_with words row)) q 0) h.1
+        ∙ get_or-set_same words (gsi_in row) (word_with words row) 0 below
+        ∙ ap (λ there. targets_word there false) (sym (
+        ap (λ q. route_at (set words (gsi_in row) (word_with words row)) q) h.1
+        ∙ ap (λ w. (targets_in w).0) (get_or-set_same words (gsi_in row) (word_with words row) 0 below)
+        ∙ ap (λ (p : Targets × Bool). p.0) (targets_in-encoded (word_with words row) (joined (route_at words (gsi_in row)) (named_in row)) false route refl)
+        ))
+    | inr h ↦
+        let same : get_or (set words (gsi_in row) (word_with words row)) gsi 0 ≡ get_or words gsi 0 = get_or-set_other words (gsi_in row) gsi (word_with words row) 0 h.1 in
+        same ∙ s.encoded gsi ∙ ap (λ w. targets_word (targets_in w).0 false) (sym same)
+  ];
   routes = λ gsi. elim (eqb_tells gsi (gsi_in row)) [
     | inl h ↦
         ap (λ q. route_at (set words (gsi_in row) (word_with words row)) q) h.1

@@ -100,7 +100,7 @@ named_back None None (Some m) x route = message_back x (m.address % 2 ^ 20) m.pa
 named_back (Some n) ioapic (Some m) x route = cc
 named_back None (Some k) (Some m) x route = cc
 
-small_bits : (pic ioapic : Option ℕ) (msi : Option MsiWord) → is_route_of pic ioapic msi ≡ true → bits_of_targets pic ioapic msi < 2 ^ 63
+pub small_bits : (pic ioapic : Option ℕ) (msi : Option MsiWord) → is_route_of pic ioapic msi ≡ true → bits_of_targets pic ioapic msi < 2 ^ 63
 small_bits None None None route = omega arith
 small_bits (Some n) None None route = let low : n < 16 = ltb-true n 16 (first_so _ _ route) in omega (arith, low)
 small_bits None (Some k) None route = let low : k < 24 = ltb-true k 24 route in omega (arith, low)

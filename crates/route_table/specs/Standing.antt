@@ -56,8 +56,10 @@ reasons_at words pics ioapics row = reasons_by (gsi_in row) (named_in row) (rout
 abbrev pub word_with : List ℕ → Row → ℕ
 word_with words row = targets_word (joined (route_at words (gsi_in row)) (named_in row)) false
 
--- words send each GSI where the rows do, and each pin is whose it is by the rows
+-- words send each GSI where the rows do, each being the word of that route without a mark, and each pin is whose it is by the
+-- rows
 pub record Stands (words pics ioapics : List ℕ) (rows : List Row) : Type 0 where
+  pub encoded : (gsi : ℕ) → slice_index words gsi ≡ targets_word (route_at words gsi) false
   pub routes : (gsi : ℕ) → route_at words gsi ≡ targets_by rows gsi
   pub pic_owners : (n : ℕ) → slice_index pics n ≡ owner pic_in n rows
   pub ioapic_owners : (n : ℕ) → slice_index ioapics n ≡ owner ioapic_in n rows

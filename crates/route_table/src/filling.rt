@@ -54,6 +54,22 @@ pub fn refill(
     fill(words, pics, ioapics, rows)
 }
 
+/// Why a list of rows is refused, if it is: `Full` for more than 4,096 rows, else as `Table::replace` does. It takes no memory;
+/// while it runs it has a table of its own, of 32 KiB.
+#[inline(never)]
+#[tactic(auto, using(crate::proofs::Filled::replace_rules))]
+pub fn refusal_of(rows: &Rows) -> Option<Refusal>
+    ensures { result ≡ refusal_of rows.now }
+{
+    let mut words = [0; 4096];
+    let mut pics = [0; 16];
+    let mut ioapics = [0; 24];
+    match refill(&mut words, &mut pics, &mut ioapics, rows) {
+        Err(refusal) => Some(refusal),
+        Ok(()) => None,
+    }
+}
+
 // Adds the rows in their order to words and pins that stand for none, up to the first that is refused.
 fn fill(
     words: &mut [u64],

@@ -14,6 +14,7 @@ mod rows;
 mod table;
 mod words;
 
+pub use filling::refusal_of;
 pub use laws::table_has_its_rows;
 pub use table::Table;
 pub use words::{decode, encode};

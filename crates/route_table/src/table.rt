@@ -1,7 +1,7 @@
 //! The routing table.
 ghost use Rattle.std.specs.Prelude.{◌≡◌, ℕ, List, ◌<◌, IfOk, OnErr, OnOk, MatchResult, IfSome, IsTrue, Some, None, [], slice_index};
 ghost use Rattle.irq_base.specs.declared.call.Row.{Row as RouteRow};
-ghost use Rattle.route_table.specs.Words.{is_route};
+ghost use Rattle.route_table.specs.Words.{is_route, targets_word};
 ghost use Rattle.route_table.specs.Rows.{refusal_of, table_of, targets_of};
 ghost use Rattle.route_table.specs.Pins.{gsi_of, gsi_told};
 ghost use Rattle.route_table.specs.Defaults.{pic_rows, ioapic_rows, default_rows};
@@ -121,6 +121,16 @@ impl Table {
         ensures route { IsTrue (is_route result) }
     {
         route_at(self.words.as_slice(), gsi)
+    }
+
+    /// The word of a GSI, which tells where it goes, with that mark: `encode` of its targets, found in one step.
+    #[inline]
+    pub fn word(&self, gsi: u16, marked: bool) -> u64
+        requires { gsi < 4096 }
+        ensures { result ≡ targets_word (targets_of self.now gsi) marked }
+    {
+        let word = self.words.as_slice()[gsi as usize];
+        if marked { word + (1 << 63) } else { word }
     }
 
     /// The GSI that goes to a pin, or none, as for a pin that the chip does not have.

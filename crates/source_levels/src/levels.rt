@@ -83,6 +83,13 @@ impl<const N: usize> Levels<N> {
         self.words[pin as usize] != 0
     }
 
+    /// The same holds once more.
+    pub fn copy(&self) -> Levels<N>
+        ensures { result ≡ self.now }
+    {
+        Levels { words: self.words }
+    }
+
     /// Makes the holds equal to the other's.
     pub fn copy_from(&mut self, other: &Levels<N>)
         ensures { self.new ≡ other.now }

@@ -76,6 +76,17 @@ impl TickState {
         self.pending
     }
 
+    /// The same state once more.
+    pub fn copy(&self) -> TickState
+        ensures { result ≡ self.now }
+    {
+        TickState {
+            reinjects: self.reinjects,
+            pending: self.pending,
+            free: self.free,
+        }
+    }
+
     /// Makes the state equal to the other.
     pub fn copy_from(&mut self, other: &TickState)
         ensures { self.new ≡ other.now }

@@ -1,11 +1,13 @@
 -- What a pen says of its slots stays when parts are taken, given and committed
 use Rattle.std.proofs.Common.{◌≡◌, ◌≢◌, ℕ, List, [], ◌∷◌, true, false, refl, sym, ap, ◌∙◌, subst, arith}
-use Rattle.std.specs.Prelude.{Some, nat_eq, nat_lt, is_some}
+use Rattle.std.specs.Prelude.{Some, None, nat_eq, nat_lt, is_some, if◌then◌else◌}
 use Rattle.atomic_table.specs.Table.{rest}
 use Rattle.turn_book.specs.declared.view.Held.{Held}
 use Rattle.turn_book.specs.Hands.{held_at, held_without, slot_at, are_distinct, brought, ArePaired, AreBelow}
 use Rattle.turn_book.specs.Lent.{slot_here, rest-brought}
-use Rattle.turn_book.proofs.Lists.{not_both, has}
+use Rattle.turn_book.specs.declared.view.View.{View}
+use Rattle.turn_book.specs.Views.{given_view, KnowsOnly}
+use Rattle.turn_book.proofs.Lists.{not_both, has, none_not}
 use Rattle.turn_book.proofs.Holding.{held-else, held-gone}
 
 module _ {P : Type 0} where
@@ -51,3 +53,7 @@ module _ {P : Type 0} where
         let other : p ≢ q = λ e. (let no_way : ⊥ = grind arith in no_way) in
         low q (sym (ap is_some (held-else p q other hs)) ∙ h)
   ] refl
+
+-- what is known of the generation, after a part was given
+pub given_knows : {S E P : Type 0} (p : ℕ) (v : View S E P) (g : ℕ) → KnowsOnly g v → KnowsOnly g (given_view p v)
+given_knows p v g only h = elim (nat_eq p 0) as (λ b. (if b then None else v.knows) ≡ Some h → h ≡ g) [ true ↦ λ e. absurd (none_not h e) | false ↦ λ e. only h e ]

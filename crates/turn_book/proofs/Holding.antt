@@ -1,8 +1,8 @@
 -- What is held after an entry, and without a part
-use Rattle.std.proofs.Common.{◌≡◌, ◌≢◌, ℕ, List, [], ◌∷◌, true, false, subst, refl, sym, ap, ◌∙◌, arith}
+use Rattle.std.proofs.Common.{◌≡◌, ◌≢◌, ℕ, List, [], ◌∷◌, Bool, true, false, not, ◌&&◌, subst, refl, sym, ap, ◌∙◌, arith}
 use Rattle.std.specs.Prelude.{Some, None, slice_get, unwrap_or, is_some, nat_eq}
 use Rattle.turn_book.specs.declared.view.Held.{Held}
-use Rattle.turn_book.specs.Hands.{held_at, held_after, held_without}
+use Rattle.turn_book.specs.Hands.{held_at, held_after, held_without, slot_at, AreHome}
 use Rattle.turn_book.proofs.Lists.{some_is, none_not}
 
 -- a held part after the entry was held before
@@ -46,4 +46,26 @@ pub held-without : {P : Type 0} (p q : ℕ) (y : P) (hs : List (Held P)) → hel
 held-without {P} p q y hs h = elim (nat_eq p q) as (λ b. nat_eq p q ≡ b → (p ≢ q) × (held_at q hs ≡ Some y)) [
   | true ↦ λ t. (let same : p ≡ q = grind arith in absurd (none_not y (sym (subst (λ n. held_at n (held_without p hs) ≡ None) same (held-gone p hs)) ∙ h)))
   | false ↦ λ t. (let other : p ≢ q = λ e. (let no_way : ⊥ = grind arith in no_way) in (other, sym (held-else p q other hs) ∙ h))
+] refl
+
+-- what is held once a part was given: each other part
+pub given-held : {P : Type 0} (p q : ℕ) (hs : List (Held P)) → is_some (held_at q (held_without p hs)) ≡ (is_some (held_at q hs) && not (nat_eq p q))
+given-held p q hs = elim (nat_eq p q) as (λ b. nat_eq p q ≡ b → is_some (held_at q (held_without p hs)) ≡ (is_some (held_at q hs) && not b)) [
+  | true ↦ λ t. (let same : p ≡ q = grind arith in subst (λ n. is_some (held_at n (held_without p hs)) ≡ (is_some (held_at n hs) && false)) same (ap is_some (held-gone p hs) ∙ none (is_some (held_at p hs))))
+  | false ↦ λ t. (let other : p ≢ q = λ e. (let no_way : ⊥ = grind arith in no_way) in ap is_some (held-else p q other hs) ∙ all (is_some (held_at q hs)))
+] refl
+  where
+    none : (b : Bool) → false ≡ (b && false)
+    none true = refl
+    none false = refl
+
+    all : (b : Bool) → b ≡ (b && true)
+    all true = refl
+    all false = refl
+
+-- and what is in hand is still what is held
+pub given-home : {P : Type 0} (p : ℕ) (hs : List (Held P)) (cs ds : List (ℕ × P)) → AreHome hs cs → slot_at p ds ≡ None → ((q : ℕ) → nat_eq p q ≡ false → slot_at q ds ≡ slot_at q cs) → AreHome (held_without p hs) ds
+given-home p hs cs ds home gone others q = elim (nat_eq p q) as (λ b. nat_eq p q ≡ b → slot_at q ds ≡ held_at q (held_without p hs)) [
+  | true ↦ λ t. (let same : p ≡ q = grind arith in subst (λ n. slot_at n ds ≡ held_at n (held_without p hs)) same (gone ∙ sym (held-gone p hs)))
+  | false ↦ λ t. (let other : p ≢ q = λ e. (let no_way : ⊥ = grind arith in no_way) in others q t ∙ home q ∙ sym (held-else p q other hs))
 ] refl

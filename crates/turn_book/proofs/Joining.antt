@@ -1,6 +1,7 @@
 -- Two seats made one keep the rule
 use Rattle.std.proofs.Common.{◌≡◌, ◌≢◌, ℕ, ◌≤◌, ◌<◌, List, [], ◌∷◌, length, Bool, true, false, refl, sym, ap, ◌∙◌, subst, ⊎_elim, inl, inr, ◌⊎◌, arith}
-use Rattle.std.specs.Prelude.{Option, Some, None, nat_eq, nat_le, is_some, slice_set, if◌then◌else◌}
+use Rattle.std.proofs.lemmas.List.Elements.{All-cons}
+use Rattle.std.specs.Prelude.{Option, Some, None, nat_eq, nat_le, is_some, slice_set, if◌then◌else◌, All}
 use mathlib.Core.Option.{some, some-injective}
 use lib.ListN.{get_elem?}
 use Rattle.atomic_table.specs.Table.{State, Joins}
@@ -25,8 +26,8 @@ ended_own caller None seen l d is = absurd (none_not d is)
 ended_own {E} caller (Some c) seen l d is = subst (λ n. ended_at n (record { caller = c; entries = entries_of caller c seen } ∷ l) ≡ Some (entries_of caller n seen)) (some_is c d is)
     (let t : nat_eq c c ≡ true = grind arith in ap (λ b. elim b [ true ↦ Some (entries_of caller c seen) | false ↦ ended_at c l ]) t)
 
-module _ {S E P : Type 0} (m : Workings S E P) (opening : S) where
-  module _ (s : State P (View S E P)) (k : IsKept m opening s) (id other : ℕ) (v w : View S E P)
+module _ {S E P : Type 0} (m : Workings S E P) (opening : S) (size : ℕ) where
+  module _ (s : State P (View S E P)) (k : IsKept m opening size s) (id other : ℕ) (v w : View S E P)
       (at : get_elem? s.views id ≡ some v) (there : get_elem? s.views other ≡ some w) (live : v.spent ≡ false) (lives : w.spent ≡ false)
       (bare : w.held ≡ []) (two : other ≢ id) (desk : (c : ℕ) → w.caller ≡ Some c → v.is_desk ≡ true) where
     left : View S E P
@@ -75,13 +76,12 @@ module _ {S E P : Type 0} (m : Workings S E P) (opening : S) where
           heard = gone.begins;
           stands = l.1;
           looked = λ f h. (let a = known.looked f h in let b = l.2 in omega arith);
-          fronts = known.fronts;
+          reads = record { looks = known.reads.looks; misses = known.reads.misses; notes = known.reads.notes; knows = known.reads.knows; drafts = known.reads.drafts };
           holds = known.holds;
           idle = known.idle;
           own = λ c h. (l.3 c h, (known.own c h).0);
           listed = λ d h. ((known.listed d h).0, ended_apart m.caller w.caller w.seen k.behind.ended d (apart id d v (λ e. two (sym e)) at live h) ∙ (known.listed d h).1);
           desk = λ d. ((known.desk d).0, ap (with_end m.caller w.caller w.seen) (known.desk d).1);
-          blank = known.blank;
         }
 
     others_know : (j : ℕ) (u : View S E P) → j ≢ id → j ≢ other → get_elem? s.views j ≡ some u → u.spent ≡ false → Knows m opening behind' s.words j u
@@ -95,13 +95,12 @@ module _ {S E P : Type 0} (m : Workings S E P) (opening : S) where
           heard = theirs.heard;
           stands = theirs.stands;
           looked = theirs.looked;
-          fronts = theirs.fronts;
+          reads = theirs.reads;
           holds = theirs.holds;
           idle = theirs.idle;
           own = theirs.own;
           listed = λ d h. ((theirs.listed d h).0, ended_apart m.caller w.caller w.seen k.behind.ended d (apart j d u elsewhere here alive h) ∙ (theirs.listed d h).1);
           desk = λ d. ((theirs.desk d).0, (theirs.desk d).1 ∙ sym (with_none w.caller (λ c called. n (k.seats.one_desk j id u v here at alive live d (desk c called)))));
-          blank = theirs.blank;
         }
       where
         with_none : (o : Option ℕ) → ((c : ℕ) → o ≡ Some c → ⊥) → with_end m.caller o w.seen k.behind.ended ≡ k.behind.ended
@@ -153,30 +152,30 @@ module _ {S E P : Type 0} (m : Workings S E P) (opening : S) where
           | false ↦ λ t. (let elsewhere : i ≢ other = λ e. (let no_way : ⊥ = grind arith in no_way) in inl (i, u, set_else (slice_set s.views id left) other i spent_view elsewhere ∙ here, alive, has))
         ] refl
 
-    at_end' : (d : ℕ) (es : List E) → ended_at d (with_end m.caller w.caller w.seen k.behind.ended) ≡ Some es → (is_in d k.behind.made ≡ true) × (entries_of m.caller d k.behind.history ≡ es)
-    at_end' d es h = by_caller w.caller refl h
-      where
-        by_caller : (o : Option ℕ) → w.caller ≡ o → ended_at d (with_end m.caller o w.seen k.behind.ended) ≡ Some es → (is_in d k.behind.made ≡ true) × (entries_of m.caller d k.behind.history ≡ es)
-        by_caller None called e = k.at_end d es e
-        by_caller (Some c) called e = elim (nat_eq c d) as (λ b. nat_eq c d ≡ b → (elim b [ true ↦ Some (entries_of m.caller c w.seen) | false ↦ ended_at d k.behind.ended ]) ≡ Some es → (is_in d k.behind.made ≡ true) × (entries_of m.caller d k.behind.history ≡ es)) [
-          | true ↦ λ t q.
-              let is : c ≡ d = grind arith in
-              (subst (λ n. is_in n k.behind.made ≡ true) is (gone.listed c called).0, subst (λ n. entries_of m.caller n k.behind.history ≡ es) is ((gone.own c called).0 ∙ some_is _ _ q))
-          | false ↦ λ t q. k.at_end d es q
-        ] refl e
+    abbrev IsEnd : Ended E → Type 0
+    IsEnd x = (is_in x.caller k.behind.made ≡ true) × (entries_of m.caller x.caller k.behind.history ≡ x.entries)
 
-    joined_keeps : IsKept m opening (record { words = s.words; homes = s.homes; views = views' })
+    at_end' : All IsEnd (with_end m.caller w.caller w.seen k.behind.ended)
+    at_end' = by_caller w.caller refl
+      where
+        by_caller : (o : Option ℕ) → w.caller ≡ o → All IsEnd (with_end m.caller o w.seen k.behind.ended)
+        by_caller None called = k.at_end
+        by_caller (Some c) called = All-cons IsEnd (record { caller = c; entries = entries_of m.caller c w.seen }) k.behind.ended ((gone.listed c called).0, (gone.own c called).0) k.at_end
+
+    joined_keeps : IsKept m opening size (record { words = s.words; homes = s.homes; views = views' })
     unfolding views' behind'
     joined_keeps = record {
       behind = behind';
       begins = k.begins;
       legal = k.legal;
       front = k.front;
+      width = k.width;
       wide = k.wide;
       deep = k.deep;
       turns = k.turns;
       at_home = k.at_home;
       out = out';
+      bank = k.bank;
       each_seat = λ j u e alive. ⊎_elim
           (λ (t : (j ≡ other) × (spent_view ≡ u)). absurd (spent_not u t.1 alive))
           (λ (t : (j ≢ other) × (get_elem? (slice_set s.views id left) j ≡ some u)). ⊎_elim
@@ -199,7 +198,7 @@ module _ {S E P : Type 0} (m : Workings S E P) (opening : S) where
       at_end = at_end';
     }
 
-  pub join_allows : (id other : ℕ) (v w : View S E P) → v.spent ≡ false → w.spent ≡ false → w.held ≡ [] → ((c : ℕ) → w.caller ≡ Some c → v.is_desk ≡ true) → Joins (IsKept m opening) id v other w (joined_view m.caller v w) spent_view
+  pub join_allows : (id other : ℕ) (v w : View S E P) → v.spent ≡ false → w.spent ≡ false → w.held ≡ [] → ((c : ℕ) → w.caller ≡ Some c → v.is_desk ≡ true) → Joins (IsKept m opening size) id v other w (joined_view m.caller v w) spent_view
   unfolding views' left
   join_allows id other v w live lives bare desk s k at two there =
       let before : get_elem? s.views other ≡ some w = sym (set_else s.views id other (joined_view m.caller v w) two) ∙ there in

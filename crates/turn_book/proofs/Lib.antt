@@ -1,4 +1,5 @@
 pub mod Lists
+pub mod Banking
 pub mod Holding
 pub mod Seating
 pub mod Looking
@@ -6,6 +7,9 @@ pub mod Beginning
 pub mod Taking
 pub mod Giving
 pub mod Committing
+pub mod Reading
+pub mod Drafting
+pub mod Publishing
 pub mod Closing
 pub mod Joining
 pub mod Splitting

@@ -1,9 +1,13 @@
 -- Facts about lists that the steps of the book rest on
 use Rattle.std.proofs.Common.{◌≡◌, ◌≢◌, ℕ, zero, suc, ◌+◌, ◌<◌, ◌≤◌, List, [], ◌∷◌, ◌++◌, length, take, Bool, true, false, refl, sym, ap, ◌∙◌, subst, inl, inr, ◌⊎◌, ⊎_elim, arith, append-nil, append_assoc, length-append, cond}
-use Rattle.std.specs.Prelude.{Option, Some, None, slice_get, slice_index, slice_index_or, slice_set, unwrap_or, is_some, filter, nat_eq, replicate}
+use Rattle.std.proofs.lemmas.List.Elements.{All-nil, All-cons, All-head, All-tail}
+use Rattle.std.proofs.lemmas.List.Sums.{sum_by-append, sum_by-cons}
+use Rattle.std.specs.Prelude.{Option, Some, None, slice_get, slice_index, slice_index_or, slice_set, unwrap_or, is_some, filter, nat_eq, replicate, All, count_by}
 use mathlib.Core.Option.{some, some-injective, some-ne-none}
 use lib.ListN.{get_elem?}
-use Rattle.turn_book.specs.Histories.{Runs, IsPrefix, last_of, is_in}
+use Rattle.turn_book.specs.declared.view.Ended.{Ended}
+use Rattle.turn_book.specs.Histories.{Runs, IsPrefix, last_of, is_in, entries_of}
+use Rattle.turn_book.specs.Views.{ended_at}
 
 pub some_is : {A : Type 0} (a b : A) → Some a ≡ Some b → a ≡ b
 some_is a b h = cc
@@ -35,6 +39,21 @@ pub index-same : (ws : List ℕ) (i x : ℕ) → i < length ws → slice_index (
 index-same [] i x h = absurd (omega arith)
 index-same (w ∷ ws) zero x h = refl
 index-same (w ∷ ws) (suc i) x h = index-same ws i x (omega arith)
+
+pub index-left : (xs ys : List ℕ) (i : ℕ) → i < length xs → slice_index (xs ++ ys) i ≡ slice_index xs i
+index-left [] ys i h = absurd (omega arith)
+index-left (x ∷ xs) ys zero h = refl
+index-left (x ∷ xs) ys (suc i) h = index-left xs ys i (omega arith)
+
+pub index-right : (xs ys : List ℕ) (i j : ℕ) → j ≡ length xs + i → slice_index (xs ++ ys) j ≡ slice_index ys i
+index-right [] ys i j e = ap (slice_index ys) (let k : j ≡ i = omega arith in k)
+index-right (x ∷ xs) ys i zero e = absurd (omega arith)
+index-right (x ∷ xs) ys i (suc j) e = index-right xs ys i j (omega arith)
+
+pub index_is : (xs : List ℕ) (i x : ℕ) → slice_get xs i ≡ Some x → slice_index xs i ≡ x
+index_is [] i x h = cc
+index_is (y ∷ ys) zero x h = some_is y x h
+index_is (y ∷ ys) (suc i) x h = index_is ys i x h
 
 pub index-zeros : (n i : ℕ) → slice_index (replicate n 0) i ≡ 0
 index-zeros zero i = refl
@@ -90,6 +109,47 @@ last-snoc [] x = refl
 last-snoc (y ∷ []) x = refl
 last-snoc (y ∷ z ∷ zs) x = last-snoc (z ∷ zs) x
 
+-- what holds of each member
+
+pub all_more : {A : Type 0} (P Q : A → Type 0) (xs : List A) → ((x : A) → P x → Q x) → All P xs → All Q xs
+all_more P Q xs f h k d low = f _ (h k d low)
+
+pub all_two : {A : Type 0} (P Q R : A → Type 0) (xs : List A) → ((x : A) → P x → Q x → R x) → All P xs → All Q xs → All R xs
+all_two P Q R xs f h g k d low = f _ (h k d low) (g k d low)
+
+pub last_all : {A : Type 0} (P : A → Type 0) (xs : List A) (x : A) → All P xs → last_of xs ≡ Some x → P x
+last_all P [] x h e = absurd (none_not x e)
+last_all P (y ∷ []) x h e = subst P (some_is y x e) (All-head P y [] h)
+last_all P (y ∷ z ∷ zs) x h e = last_all P (z ∷ zs) x (All-tail P y (z ∷ zs) h) e
+
+-- who has not ended is none of those who have
+pub not_among : {E : Type 0} (c : ℕ) (xs : List (Ended E)) → ended_at c xs ≡ None → All (λ x. x.caller ≢ c) xs
+not_among c [] h = All-nil _
+not_among {E} c (x ∷ xs) h = All-cons (λ (y : Ended E). y.caller ≢ c) x xs (by_test.0) (not_among c xs by_test.1)
+  where
+    by_test : (x.caller ≢ c) × (ended_at c xs ≡ None)
+    by_test = elim (nat_eq x.caller c) as (λ b. nat_eq x.caller c ≡ b → (elim b [ true ↦ Some x.entries | false ↦ ended_at c xs ]) ≡ None → (x.caller ≢ c) × (ended_at c xs ≡ None)) [
+      | true ↦ λ t e. absurd (none_not x.entries (sym e))
+      | false ↦ λ t e. ((λ same. let no_way : ⊥ = grind arith in no_way), e)
+    ] refl h
+
+-- nor has one ended of whom no member says that it has
+pub none_among : {E : Type 0} (Q : ℕ → Type 0) (c : ℕ) (xs : List (Ended E)) → All (λ x. Q x.caller) xs → (Q c → ⊥) → ended_at c xs ≡ None
+none_among Q c [] h nobody = refl
+none_among {E} Q c (x ∷ xs) h nobody = elim (nat_eq x.caller c) as (λ b. nat_eq x.caller c ≡ b → ◌≡◌ {A = Option (List E)} (elim b [ true ↦ Some x.entries | false ↦ ended_at c xs ]) None) [
+  | true ↦ λ t. absurd (nobody (subst Q (let same : x.caller ≡ c = grind arith in same) (All-head (λ (y : Ended E). Q y.caller) x xs h)))
+  | false ↦ λ t. none_among Q c xs (All-tail (λ (y : Ended E). Q y.caller) x xs h) nobody
+] refl
+
+-- of each who ended the list has just the entries with which it ended
+pub ended_right : {E : Type 0} (made : List ℕ) (caller : E → ℕ) (history : List E) (xs ys : List (Ended E)) → xs ≡ ys → All (λ x. (is_in x.caller made ≡ true) × (entries_of caller x.caller history ≡ x.entries)) ys → All (λ x. entries_of caller x.caller history ≡ x.entries) xs
+ended_right {E} made caller history xs ys same h = subst (All (λ (x : Ended E). entries_of caller x.caller history ≡ x.entries)) (sym same)
+    (all_more (λ (x : Ended E). (is_in x.caller made ≡ true) × (entries_of caller x.caller history ≡ x.entries)) (λ (x : Ended E). entries_of caller x.caller history ≡ x.entries) ys (λ x both. both.1) h)
+
+-- one more is counted, or not
+pub count-snoc : {A : Type 0} (p : A → Bool) (xs : List A) (x : A) → count_by p (xs ++ x ∷ []) ≡ count_by p xs + cond (p x) 1 0
+count-snoc p xs x = sum_by-append (λ y. cond (p y) 1 0) xs (x ∷ []) ∙ (let one = sum_by-cons (λ y. cond (p y) 1 0) x [] in omega arith)
+
 -- beginnings of lists
 
 pub prefix-nil : {A : Type 0} (xs : List A) → IsPrefix xs xs
@@ -104,7 +164,7 @@ prefix-snoc xs ys y h = prefix-trans xs ys (ys ++ y ∷ []) h (y ∷ [], refl)
 pub prefix-length : {A : Type 0} (xs ys : List A) → IsPrefix xs ys → length xs ≤ length ys
 prefix-length xs ys (r, e) = let n = ap length e in let l = length-append xs r in omega arith
 
-length_zero : {A : Type 0} (xs : List A) → length xs ≡ 0 → xs ≡ []
+pub length_zero : {A : Type 0} (xs : List A) → length xs ≡ 0 → xs ≡ []
 length_zero [] h = refl
 length_zero (x ∷ xs) h = absurd (omega arith)
 

@@ -73,20 +73,22 @@ module _ {S E P : Type 0} where
   }
 
   -- one view is changed, and nothing else
-  pub view_keeps : (m : Workings S E P) (opening : S) (s : State P (View S E P)) (k : IsKept m opening s) (id : ℕ) (v w : View S E P)
+  pub view_keeps : (m : Workings S E P) (opening : S) (size : ℕ) (s : State P (View S E P)) (k : IsKept m opening size s) (id : ℕ) (v w : View S E P)
       → get_elem? s.views id ≡ some v → SameSeat v w → ((p : ℕ) → is_some (held_at p v.held) ≡ true → is_some (held_at p w.held) ≡ true)
       → (w.spent ≡ false → Knows m opening k.behind s.words id w)
-      → IsKept m opening (record { words = s.words; homes = s.homes; views = slice_set s.views id w })
-  view_keeps m opening s k id v w at same more knows = record {
+      → IsKept m opening size (record { words = s.words; homes = s.homes; views = slice_set s.views id w })
+  view_keeps m opening size s k id v w at same more knows = record {
     behind = k.behind;
     begins = k.begins;
     legal = k.legal;
     front = k.front;
+    width = k.width;
     wide = k.wide;
     deep = k.deep;
     turns = k.turns;
     at_home = k.at_home;
     out = λ p h o. out_set s.views id v w at same.0 (k.behind.owner p) p (more p) (k.out p h o);
+    bank = k.bank;
     each_seat = each_set s.views id w (Knows m opening k.behind s.words) knows (λ j u n there live. k.each_seat j u there live);
     seats = seats_set k.behind k.behind s.views id v w k.seats at same refl refl;
     unmade = k.unmade;

@@ -1,23 +1,25 @@
 -- A seat split off another keeps the rule, for nobody or for a caller
 use Rattle.std.proofs.Common.{◌≡◌, ◌≢◌, ℕ, List, [], ◌∷◌, ◌++◌, length, true, false, refl, sym, ap, ◌∙◌, subst, ⊎_elim, inl, inr, ◌⊎◌, arith}
+use Rattle.std.proofs.lemmas.List.Elements.{All-nil}
 use Rattle.std.specs.Prelude.{Option, Some, None, nat_eq, is_some, slice_set}
 use mathlib.Core.Option.{some}
 use lib.ListN.{get_elem?}
 use Rattle.atomic_table.specs.Table.{State, Splits}
 use Rattle.atomic_table.proofs.Lists.{at_set, at_snoc, at_last, at_longer}
 use Rattle.turn_book.specs.declared.view.View.{View}
-use Rattle.turn_book.specs.Histories.{is_in}
+use Rattle.turn_book.specs.declared.view.Ended.{Ended}
+use Rattle.turn_book.specs.Histories.{is_in, entries_of}
 use Rattle.turn_book.specs.Rule.{Workings, Behind, IsKept, Knows, HasSeat}
 use Rattle.turn_book.specs.Views.{ended_at, split_view, made_view}
-use Rattle.turn_book.proofs.Lists.{some_is, none_not, not_both, get_last, in_more, in_less, in_first, filter-none}
+use Rattle.turn_book.proofs.Lists.{some_is, none_not, not_both, get_last, in_more, in_less, in_first, filter-none, all_more, none_among}
 use Rattle.turn_book.proofs.Seating.{Was, was, out_set, seat_set}
 
-module _ {S E P : Type 0} (m : Workings S E P) (opening : S) where
+module _ {S E P : Type 0} (m : Workings S E P) (opening : S) (size : ℕ) where
   -- a caller for whom a seat may be split: the seat is the desk's, and the caller was not made
   abbrev pub MaySplit : Option ℕ → View S E P → Type 0
   MaySplit o v = (c : ℕ) → o ≡ Some c → (v.is_desk ≡ true) × (is_in c v.made ≡ false)
 
-  module _ (s : State P (View S E P)) (k : IsKept m opening s) (id : ℕ) (v : View S E P) (o : Option ℕ)
+  module _ (s : State P (View S E P)) (k : IsKept m opening size s) (id : ℕ) (v : View S E P) (o : Option ℕ)
       (at : get_elem? s.views id ≡ some v) (live : v.spent ≡ false) (may : MaySplit o v) where
     left : View S E P
     left = made_view o v
@@ -60,13 +62,12 @@ module _ {S E P : Type 0} (m : Workings S E P) (opening : S) where
       heard = known.heard;
       stands = known.stands;
       looked = known.looked;
-      fronts = known.fronts;
+      reads = record { looks = known.reads.looks; misses = known.reads.misses; notes = known.reads.notes; knows = known.reads.knows; drafts = known.reads.drafts };
       holds = known.holds;
       idle = known.idle;
       own = known.own;
       listed = λ d h. (still_made d (known.listed d h).0, (known.listed d h).1);
       desk = λ d. (ap (λ l. elim o [ None ↦ l | Some c ↦ c ∷ l ]) (known.desk d).0, (known.desk d).1);
-      blank = known.blank;
     }
 
     others_know : (j : ℕ) (u : View S E P) → j ≢ id → get_elem? s.views j ≡ some u → u.spent ≡ false → Knows m opening behind' s.words j u
@@ -80,13 +81,12 @@ module _ {S E P : Type 0} (m : Workings S E P) (opening : S) where
           heard = theirs.heard;
           stands = theirs.stands;
           looked = theirs.looked;
-          fronts = theirs.fronts;
+          reads = theirs.reads;
           holds = theirs.holds;
           idle = theirs.idle;
           own = theirs.own;
           listed = λ d h. (still_made d (theirs.listed d h).0, (theirs.listed d h).1);
           desk = λ d. ((theirs.desk d).0 ∙ sym (with_none o (λ c is. n (k.seats.one_desk j id u v here at alive live d (may c is).0))), (theirs.desk d).1);
-          blank = theirs.blank;
         }
       where
         with_none : (p : Option ℕ) → ((c : ℕ) → p ≡ Some c → ⊥) → (elim p [ None ↦ k.behind.made | Some c ↦ c ∷ k.behind.made ]) ≡ k.behind.made
@@ -102,22 +102,23 @@ module _ {S E P : Type 0} (m : Workings S E P) (opening : S) where
       heard = (k.behind.history, refl);
       stands = known.stands;
       looked = λ f h. absurd (none_not f h);
-      fronts = (tt, tt);
+      reads = record {
+        looks = All-nil _;
+        misses = All-nil _;
+        notes = All-nil _;
+        knows = λ g h. absurd (none_not g h);
+        drafts = λ i x h. absurd (none_not x h);
+      };
       holds = λ p x h. absurd (none_not x h);
       idle = λ h. refl;
       own = λ c is. (k.unmade c (fresh c is) ∙ sym (filter-none (λ e. nat_eq (m.caller e) c) v.seen k.behind.history known.begins (k.unmade c (fresh c is))), k.unmade c (fresh c is));
-      listed = λ c is. (is_first o c is, not_ended c (ended_at c k.behind.ended) (fresh c is) (λ es e. (k.at_end c es e).0));
+      listed = λ c is. (is_first o c is, none_among (λ n. is_in n k.behind.made ≡ true) c k.behind.ended (all_more (λ (x : Ended E). (is_in x.caller k.behind.made ≡ true) × (entries_of m.caller x.caller k.behind.history ≡ x.entries)) (λ (x : Ended E). is_in x.caller k.behind.made ≡ true) k.behind.ended (λ x h. h.0) k.at_end) (λ h. not_both (is_in c k.behind.made) h (fresh c is)));
       desk = λ d. absurd (not_both false d refl);
-      blank = (refl, refl, refl);
     }
       where
         is_first : (p : Option ℕ) (c : ℕ) → p ≡ Some c → is_in c (elim p [ None ↦ k.behind.made | Some d ↦ d ∷ k.behind.made ]) ≡ true
         is_first None c is = absurd (none_not c is)
         is_first (Some d) c is = subst (λ n. is_in n (d ∷ k.behind.made) ≡ true) (some_is d c is) (in_first d k.behind.made)
-
-        not_ended : (c : ℕ) (p : Option (List E)) → is_in c k.behind.made ≡ false → ((es : List E) → p ≡ Some es → is_in c k.behind.made ≡ true) → p ≡ None
-        not_ended c None f g = refl
-        not_ended c (Some es) f g = absurd (not_both (is_in c k.behind.made) (g es refl) f)
 
     -- no seat has a caller that is new
     unknown : (j c : ℕ) (u : View S E P) → get_elem? s.views j ≡ some u → u.spent ≡ false → u.caller ≡ Some c → o ≡ Some c → ⊥
@@ -162,18 +163,20 @@ module _ {S E P : Type 0} (m : Workings S E P) (opening : S) where
           | false ↦ λ t e. old e
         ] refl h
 
-    pub split_keeps : IsKept m opening (record { words = s.words; homes = s.homes; views = slice_set s.views id (made_view o v) ++ split_view o v ∷ [] })
+    pub split_keeps : IsKept m opening size (record { words = s.words; homes = s.homes; views = slice_set s.views id (made_view o v) ++ split_view o v ∷ [] })
     unfolding views' left Place born behind' made'
     split_keeps = record {
       behind = behind';
       begins = k.begins;
       legal = k.legal;
       front = k.front;
+      width = k.width;
       wide = k.wide;
       deep = k.deep;
       turns = k.turns;
       at_home = k.at_home;
       out = λ p h q. (let (u, a, lu, has) = out_set s.views id v left at refl (k.behind.owner p) p (λ x. x) (k.out p h q) in (u, at_longer (slice_set s.views id left) (born ∷ []) (k.behind.owner p) u a, lu, has));
+      bank = k.bank;
       each_seat = λ j u e alive. ⊎_elim
           (λ (t : get_elem? (slice_set s.views id left) j ≡ some u). ⊎_elim
           (λ (r : (j ≡ id) × (left ≡ u)). subst (λ i. Knows m opening behind' s.words i u) (sym r.0) (subst (λ x. Knows m opening behind' s.words id x) r.1 left_knows))
@@ -202,8 +205,8 @@ module _ {S E P : Type 0} (m : Workings S E P) (opening : S) where
         placed = placed';
       };
       unmade = λ d h. k.unmade d (made_before d h);
-      at_end = λ d es h. (let old = k.at_end d es h in (still_made d old.0, old.1));
+      at_end = all_more (λ (x : Ended E). (is_in x.caller k.behind.made ≡ true) × (entries_of m.caller x.caller k.behind.history ≡ x.entries)) (λ (x : Ended E). (is_in x.caller made' ≡ true) × (entries_of m.caller x.caller k.behind.history ≡ x.entries)) k.behind.ended (λ x old. (still_made x.caller old.0, old.1)) k.at_end;
     }
 
-  pub split_allows : (id : ℕ) (v : View S E P) (o : Option ℕ) → v.spent ≡ false → MaySplit o v → Splits (IsKept m opening) id v (made_view o v) (split_view o v)
+  pub split_allows : (id : ℕ) (v : View S E P) (o : Option ℕ) → v.spent ≡ false → MaySplit o v → Splits (IsKept m opening size) id v (made_view o v) (split_view o v)
   split_allows id v o live may s k at = split_keeps s k id v o at live may

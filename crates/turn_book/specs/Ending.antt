@@ -1,7 +1,10 @@
 -- What a book leaves when it is closed
-use Rattle.std.specs.Prelude.{◌≡◌, ℕ, List, [], length, true, false, Some, is_some}
+use Rattle.std.specs.Prelude.{◌≡◌, ℕ, List, [], true, false, is_some, All}
+use Rattle.turn_book.specs.declared.view.Front.{Front}
 use Rattle.turn_book.specs.declared.view.View.{View}
 use Rattle.turn_book.specs.Histories.{Runs, IsPrefix, entries_of, is_in}
+use Rattle.turn_book.specs.Fronts.{front_after}
+use Rattle.turn_book.specs.Rule.{Workings}
 use Rattle.turn_book.specs.Views.{ended_at}
 
 module _ {S E P : Type 0} where
@@ -9,14 +12,14 @@ module _ {S E P : Type 0} where
   abbrev pub AllEnded : View S E P → Type 0
   AllEnded v = (c : ℕ) → is_in c v.made ≡ true → is_some (ended_at c v.ended) ≡ true
 
-  -- one legal history leaves these parts and has this length; it begins with what the desk has seen, has of each joined caller just the entries of its own list, and of no other caller any
-  pub record EndsRight (opens : S → Type 0) (steps : S → E → S → Type 0) (parts : S → List P) (caller : E → ℕ) (opening : S) (v : View S E P) (left : List P) (count : ℕ) : Type 0 where
+  -- One legal history leaves these parts and has this front. It begins with what the desk has seen, has of each joined caller just the entries of its own list, and of no other caller any
+  pub record EndsRight (m : Workings S E P) (opening : S) (v : View S E P) (left : List P) (front : Front) : Type 0 where
     pub history : List E
     pub now : S
-    pub begins : opens opening
-    pub legal : Runs steps opening history now
-    pub parts_left : parts now ≡ left
-    pub counted : length history ≡ count
+    pub begins : m.opens opening
+    pub legal : Runs m.steps opening history now
+    pub parts_left : m.parts now ≡ left
+    pub counted : front ≡ front_after m.is_publication history
     pub seen : IsPrefix v.seen history
-    pub ended : (c : ℕ) (es : List E) → ended_at c v.ended ≡ Some es → entries_of caller c history ≡ es
-    pub others : (c : ℕ) → is_in c v.made ≡ false → entries_of caller c history ≡ []
+    pub ended : All (λ x. entries_of m.caller x.caller history ≡ x.entries) v.ended
+    pub others : (c : ℕ) → is_in c v.made ≡ false → entries_of m.caller c history ≡ []

@@ -31,6 +31,10 @@ are_distinct (c ∷ cs) = elim (is_some (slot_at c.0 cs)) [ true ↦ false | fal
 abbrev pub ArePaired : {P : Type 0} → List (Held P) → List (ℕ × P) → Type 0
 ArePaired hs cs = (q : ℕ) → is_some (slot_at q cs) ≡ is_some (held_at q hs)
 
+-- each part in hand is the one that the history has
+abbrev pub AreHome : {P : Type 0} → List (Held P) → List (ℕ × P) → Type 0
+AreHome hs cs = (q : ℕ) → slot_at q cs ≡ held_at q hs
+
 -- each held part is one of the first n
 abbrev pub AreBelow : {P : Type 0} → ℕ → List (Held P) → Type 0
 AreBelow n hs = (q : ℕ) → is_some (held_at q hs) ≡ true → nat_lt q n ≡ true

@@ -2,7 +2,10 @@ pub mod Histories
 pub mod Hands
 pub mod Laws
 pub mod Lent
+pub mod Fronts
+pub mod Banks
 pub mod Views
+pub mod Many
 pub mod Rule
 pub mod Plays
 pub mod Ending

@@ -1,39 +1,32 @@
 -- The rule of a book: one legal history, and what each seat knows of it
-use Rattle.std.specs.Prelude.{◌≡◌, ℕ, ◌+◌, ◌<◌, ◌≤◌, List, [], ◌∷◌, ◌⊎◌, length, true, false, Some, None, slice_get, slice_index, is_some}
+use Rattle.std.specs.Prelude.{◌≡◌, ℕ, ◌+◌, ◌<◌, ◌≤◌, List, [], Bool, ◌⊎◌, length, true, false, Some, None, slice_get, slice_index, is_some, All, count_by}
 use mathlib.Core.Option.{some}
 use lib.ListN.{get_elem?}
 use Rattle.atomic_table.specs.Table.{State}
 use Rattle.turn_book.specs.declared.view.Front.{Front}
-use Rattle.turn_book.specs.declared.view.Miss.{Miss}
 use Rattle.turn_book.specs.declared.view.View.{View}
 use Rattle.turn_book.specs.declared.view.Ended.{Ended}
 use Rattle.turn_book.specs.Histories.{Runs, IsPrefix, entries_of, is_in, last_of}
 use Rattle.turn_book.specs.Hands.{held_at}
+use Rattle.turn_book.specs.Fronts.{word_of, front_after}
+use Rattle.turn_book.specs.Banks.{is_odd, place, KnowsWords}
 use Rattle.turn_book.specs.Views.{ended_at}
 
 -- word 0 is the front, word p + 1 the turn of part p
 abbrev pub turn_of : List ℕ → ℕ → ℕ
 turn_of words p = slice_index words (p + 1)
 
--- no front is of a generation above this one
-abbrev pub AreNotAbove : ℕ → List Front → Type 0
-AreNotAbove g [] = Unit {0}
-AreNotAbove g (f ∷ fs) = (f.generation ≤ g) × AreNotAbove g fs
-
--- nor is a front of these misses
-abbrev pub MissNoneAbove : ℕ → List Miss → Type 0
-MissNoneAbove g [] = Unit {0}
-MissNoneAbove g (x ∷ xs) = (x.had.generation ≤ g) × (x.found.generation ≤ g) × MissNoneAbove g xs
-
--- what a machine is to the rule: its opening states, its steps, the parts of a state and the caller of an entry
+-- what a machine is to the rule: its opening states, its steps, the parts and the published words of a state, and of an entry its caller and whether it is a publication
 pub record Workings (S E P : Type 0) : Type 1 where
   pub opens : S → Type 0
   pub steps : S → E → S → Type 0
   pub parts : S → List P
+  pub published : S → List ℕ
   pub caller : E → ℕ
+  pub is_publication : E → Bool
 
-abbrev pub workings : {S E P : Type 0} → (S → Type 0) → (S → E → S → Type 0) → (S → List P) → (E → ℕ) → Workings S E P
-workings opens steps parts caller = record { opens = opens; steps = steps; parts = parts; caller = caller }
+abbrev pub workings : {S E P : Type 0} → (S → Type 0) → (S → E → S → Type 0) → (S → List P) → (S → List ℕ) → (E → ℕ) → (E → Bool) → Workings S E P
+workings opens steps parts published caller is_publication = record { opens = opens; steps = steps; parts = parts; published = published; caller = caller; is_publication = is_publication }
 
 -- What stands behind the words: the history, the state that it leaves, the seat that holds each part whose turn is taken, the callers for whom seats were split, and those whose seats were joined, with their entries
 pub record Behind (S E : Type 0) : Type 0 where
@@ -44,9 +37,13 @@ pub record Behind (S E : Type 0) : Type 0 where
   pub ended : List (Ended E)
 
 module _ {S E P : Type 0} where
-  -- What the seat knows, which is not spent.
-  -- Published words add here: in `fronts` the front's generation in place of 0; a note of the front's generation has the published value; drafts and knows are the registry's holder's, in place of `blank`.
+  -- what the seat, which is not spent, knows of the published words
+  abbrev pub Reads : Workings S E P → Behind S E → List ℕ → View S E P → Type 0
+  Reads m r words v = KnowsWords (m.published r.now) (count_by m.is_publication r.history) (length (m.parts r.now)) words v
+
+  -- What the seat knows, which is not spent
   pub record Knows (m : Workings S E P) (opening : S) (r : Behind S E) (words : List ℕ) (id : ℕ) (v : View S E P) : Type 0 where
+    -- its list is a beginning of the history, and it has the state that the list leaves
     pub opened : v.begin ≡ Some opening
     pub begins : IsPrefix v.seen r.history
     pub before : IsPrefix v.before r.history
@@ -54,8 +51,7 @@ module _ {S E P : Type 0} where
     pub stands : (s : S) × (v.now ≡ Some s) × Runs m.steps opening v.seen s
     -- the last front that a load found was no longer than the list
     pub looked : (f : Front) → last_of v.looks ≡ Some f → f.length ≤ length v.seen
-    -- no front that it found is of a generation above the front's
-    pub fronts : AreNotAbove 0 v.looks × MissNoneAbove 0 v.misses
+    pub reads : Reads m r words v
     -- what is held has a taken turn, is with no other seat, and is as the history has it
     pub holds : (p : ℕ) (x : P) → held_at p v.held ≡ Some x → (turn_of words p ≡ 1) × (r.owner p ≡ id) × (slice_get (m.parts r.now) p ≡ Some x)
     -- a seat without a caller holds nothing
@@ -66,8 +62,6 @@ module _ {S E P : Type 0} where
     pub listed : (c : ℕ) → v.caller ≡ Some c → (is_in c r.made ≡ true) × (ended_at c r.ended ≡ None)
     -- the desk knows which callers were made and which ended
     pub desk : v.is_desk ≡ true → (v.made ≡ r.made) × (v.ended ≡ r.ended)
-    -- no view has notes or drafts while no words are published
-    pub blank : (v.notes ≡ []) × (v.drafts ≡ []) × (v.knows ≡ None)
 
   -- the view of the seat i, which is not spent, holds the part
   abbrev pub IsOut : List (View S E P) → ℕ → ℕ → Type 0
@@ -83,23 +77,30 @@ module _ {S E P : Type 0} where
     pub one_seat : (i j : ℕ) (v w : View S E P) (c : ℕ) → get_elem? views i ≡ some v → get_elem? views j ≡ some w → v.spent ≡ false → w.spent ≡ false → v.caller ≡ Some c → w.caller ≡ Some c → i ≡ j
     pub placed : (c : ℕ) → is_in c r.made ≡ true → HasSeat views c ⊎ (is_some (ended_at c r.ended) ≡ true)
 
-  -- The rule, which holds between any two steps.
-  -- Published words add here: the generation in the front word, and the bank of its parity.
-  pub record IsKept (m : Workings S E P) (opening : S) (s : State P (View S E P)) : Type 0 where
+  -- The rule, which holds between any two steps, in seven points. The book began in this state, with so many published words
+  pub record IsKept (m : Workings S E P) (opening : S) (size : ℕ) (s : State P (View S E P)) : Type 0 where
     pub behind : Behind S E
-    -- the history is legal from the opening state, and the front is its length
+    -- 1. The history is legal from the opening state that all views share. The front's length is the number of its entries, the front's generation the number of its publications
     pub begins : m.opens opening
     pub legal : Runs m.steps opening behind.history behind.now
-    pub front : slice_index s.words 0 ≡ length behind.history
-    -- there is a turn and a slot for each part
-    pub wide : length s.words ≡ length (m.parts behind.now) + 1
+    pub front : slice_index s.words 0 ≡ word_of (front_after m.is_publication behind.history)
+    -- The words are the front, a turn for each part and two banks of published words. There is a slot for each part
+    pub width : length (m.published behind.now) ≡ size
+    pub wide : length s.words ≡ length (m.parts behind.now) + 1 + length (m.published behind.now) + length (m.published behind.now)
     pub deep : length s.homes ≡ length (m.parts behind.now)
-    -- a turn is 0 or 1; with 0 the slot has the part of the history, with 1 the owner's seat holds it
+    -- 2, 5 and 6 of each seat, and of 3 and 7 what is said of one seat alone.
+    -- 2. What a seat has seen begins the history, and no generation that it looked up, missed or noted is above the front's.
+    -- 5. A note of the front's generation has the published value.
+    -- 6. Only the seat that holds the registry has drafts or knows a generation, which is the front's; each draft stands in the other bank
+    pub each_seat : (id : ℕ) (v : View S E P) → get_elem? s.views id ≡ some v → v.spent ≡ false → Knows m opening behind s.words id v
+    -- 3. A turn is 0 or 1. With 0 no view holds the part, and its slot has the part of the history; with 1 just the owner's view holds it, as the history has it
     pub turns : (p : ℕ) → p < length (m.parts behind.now) → turn_of s.words p < 2
     pub at_home : (p : ℕ) (x : P) → turn_of s.words p ≡ 0 → slice_get (m.parts behind.now) p ≡ Some x → get_elem? s.homes p ≡ some (some x)
     pub out : (p : ℕ) → p < length (m.parts behind.now) → turn_of s.words p ≡ 1 → IsOut s.views (behind.owner p) p
-    pub each_seat : (id : ℕ) (v : View S E P) → get_elem? s.views id ≡ some v → v.spent ≡ false → Knows m opening behind s.words id v
+    -- 4. The bank of the generation's parity has the published words of the history
+    pub bank : (i x : ℕ) → slice_get (m.published behind.now) i ≡ Some x
+        → slice_index s.words (place (length (m.parts behind.now)) (length (m.published behind.now)) (is_odd (count_by m.is_publication behind.history)) i) ≡ x
+    -- 7. No two seats have one caller; a caller that was made has a seat or has ended, and has just the entries that its seat has seen or with which it ended; a caller that was not made has none; a seat without a caller holds nothing
     pub seats : Seats behind s.views
-    -- a caller that was not made has no entry; one that ended was made, and has the entries with which it ended
     pub unmade : (c : ℕ) → is_in c behind.made ≡ false → entries_of m.caller c behind.history ≡ []
-    pub at_end : (c : ℕ) (es : List E) → ended_at c behind.ended ≡ Some es → (is_in c behind.made ≡ true) × (entries_of m.caller c behind.history ≡ es)
+    pub at_end : All (λ x. (is_in x.caller behind.made ≡ true) × (entries_of m.caller x.caller behind.history ≡ x.entries)) behind.ended

@@ -1,11 +1,11 @@
 -- What the moves of a seat make of its view
-use Rattle.std.specs.Prelude.{◌≡◌, ℕ, List, [], ◌∷◌, length, true, false, Option, Some, None, slice_get, nat_eq, nat_le, if◌then◌else◌, IfSome}
+use Rattle.std.specs.Prelude.{◌≡◌, ℕ, ◌+◌, List, [], ◌∷◌, length, Bool, true, false, Option, Some, None, slice_get, nat_eq, nat_le, if◌then◌else◌, IfSome, All}
 use Rattle.atomic_table.specs.declared.shared.Seat.{Seat}
 use Rattle.turn_book.specs.declared.view.Front.{Front}
 use Rattle.turn_book.specs.declared.view.View.{View}
 use Rattle.turn_book.specs.declared.view.Ended.{Ended}
-use Rattle.turn_book.specs.Histories.{Runs, entries_of, is_in}
-use Rattle.turn_book.specs.Hands.{held_at}
+use Rattle.turn_book.specs.Histories.{Runs, entries_of, is_in, last_of}
+use Rattle.turn_book.specs.Hands.{held_at, held_without}
 
 -- what a seat knows, and the slots that it has in hand
 abbrev pub view_of : {P V : Type 0} → Seat P V → V
@@ -24,9 +24,10 @@ abbrev pub with_end : {E : Type 0} → (E → ℕ) → Option ℕ → List E →
 with_end caller None seen l = l
 with_end caller (Some c) seen l = record { caller = c; entries = entries_of caller c seen } ∷ l
 
--- the front word's content at this length; a book without published words has generation 0
-abbrev pub front_at : ℕ → Front
-front_at n = record { generation = 0; length = n }
+-- one more, where there is a number
+abbrev pub next_of : Option ℕ → Option ℕ
+next_of None = None
+next_of (Some g) = Some (g + 1)
 
 module _ {S E P : Type 0} where
   -- the first seat, which is the desk's, at the beginning
@@ -55,6 +56,22 @@ module _ {S E P : Type 0} where
     ended = with_end caller w.caller w.seen v.ended;
   }
 
+  -- without a part; without the registry, which is part 0, nothing is drafted or known either
+  abbrev pub given_view : ℕ → View S E P → View S E P
+  given_view p v = record v {
+    held = held_without p v.held;
+    drafts = if nat_eq p 0 then [] else v.drafts;
+    knows = if nat_eq p 0 then None else v.knows;
+  }
+
+  -- with one published word more that was read, under the generation of the last look
+  abbrev pub noted_view : ℕ → ℕ → ℕ → View S E P → View S E P
+  noted_view i x g v = record v { notes = record { index = i; value = x; generation = g } ∷ v.notes }
+
+  -- with one word more that was written to the spare bank
+  abbrev pub drafted_view : ℕ → ℕ → View S E P → View S E P
+  drafted_view i x v = record v { drafts = record { index = i; value = x } ∷ v.drafts }
+
   -- the view's list is a legal history from the opening state that all views share, and `now` is the state that it leaves
   abbrev pub IsLegal : (S → Type 0) → (S → E → S → Type 0) → View S E P → Type 0
   IsLegal opens steps v = (o : S) × (s : S) × (v.begin ≡ Some o) × opens o × (v.now ≡ Some s) × Runs steps o v.seen s
@@ -65,7 +82,7 @@ module _ {S E P : Type 0} where
 
   -- the desk's list has of each joined caller just the entries of the list that was joined
   abbrev pub HasJustEnded : (E → ℕ) → View S E P → Type 0
-  HasJustEnded caller v = v.is_desk ≡ true → (c : ℕ) (es : List E) → ended_at c v.ended ≡ Some es → entries_of caller c v.seen ≡ es
+  HasJustEnded caller v = v.is_desk ≡ true → All (λ x. entries_of caller x.caller v.seen ≡ x.entries) v.ended
 
   -- the desk's list has no entry of a caller for whom no seat was split
   abbrev pub HasOnlyMade : (E → ℕ) → View S E P → Type 0
@@ -90,3 +107,15 @@ module _ {S E P : Type 0} where
   -- the same knowledge of published words
   abbrev pub SameWords : View S E P → View S E P → Type 0
   SameWords v w = (w.notes ≡ v.notes) × (w.drafts ≡ v.drafts) × (w.knows ≡ v.knows)
+
+  -- the same knowledge of published words; after a publication nothing is drafted, and the generation known is one more
+  abbrev pub AfterEntry : Bool → View S E P → View S E P → Type 0
+  AfterEntry publishes v w = (w.notes ≡ v.notes) × (w.drafts ≡ (if publishes then [] else v.drafts)) × (w.knows ≡ (if publishes then next_of v.knows else v.knows))
+
+  -- the last front that the view's loads found is of this generation
+  abbrev pub LookedUnder : ℕ → View S E P → Type 0
+  LookedUnder g v = (f : Front) → last_of v.looks ≡ Some f → f.generation ≡ g
+
+  -- the generation that the view knows, if it knows one, is this one
+  abbrev pub KnowsOnly : ℕ → View S E P → Type 0
+  KnowsOnly g v = (h : ℕ) → v.knows ≡ Some h → h ≡ g

@@ -54,6 +54,9 @@ pub trait Machine {
     // a step that is no publication leaves the published words
     ghost words_stay: { (s : Self.State) (e : Self.Entry) (t : Self.State) → steps s e t → is_publication e ≡ false → published t ≡ published s };
 
+    // a step leaves the number of published words
+    ghost width_stays: { (s : Self.State) (e : Self.Entry) (t : Self.State) → steps s e t → length (published t) ≡ length (published s) };
+
     // no history has more than 2^40 entries or 2^20 publications
     ghost bounded: { IsBounded opens steps is_publication };
 }
@@ -67,7 +70,7 @@ impl<E> Entering<E> for Brand {
     ghost entry = { None };
 }
 
-/// Names a caller, in contracts alone.
+/// Names a caller, or the index of a published word, in contracts alone.
 pub trait Naming {
     ghost named: { Option ℕ };
 }

@@ -4,19 +4,27 @@ use atomic_table::{Join, Play, Split, TableRule};
 use std::marker::PhantomData;
 use std::snapshot::Snapshot;
 
+/// The parts and the published words that a book was made with. It has no bytes.
+#[derive(Drop)]
+pub struct Origin<P> {
+    pub parts: Snapshot<Vec<P>>,
+    pub words: Snapshot<Vec<u64>>,
+}
+
 /// The rule of the book's table.
 pub struct Kept<M> {
     machine: PhantomData<M>,
 }
 
-impl<M: Machine> TableRule<M::Part, View<M::State, M::Entry, M::Part>, Snapshot<Vec<M::Part>>>
+impl<M: Machine> TableRule<M::Part, View<M::State, M::Entry, M::Part>, Origin<M::Part>>
     for Kept<M> {
+    ghost use Rattle.std.specs.Prelude.{length};
     ghost use Rattle.turn_book.specs.Rule.{IsKept, workings};
     ghost use Rattle.turn_book.specs.Views.{first_view};
 
-    ghost holds = { λ key. IsKept (workings M.opens M.steps M.parts M.caller) (M.opening key.value.items) };
+    ghost holds = { λ key. IsKept (workings M.opens M.steps M.parts M.published M.caller M.is_publication) (M.opening key.parts.value.items) (length key.words.value.items) };
 
-    ghost first = { λ key. first_view (M.opening key.value.items) };
+    ghost first = { λ key. first_view (M.opening key.parts.value.items) };
 }
 
 /// The front is loaded.
@@ -28,7 +36,7 @@ impl<M: Machine> Play<M::Part, View<M::State, M::Entry, M::Part>> for Look<M> {
     ghost use Rattle.turn_book.specs.Rule.{workings};
     ghost use Rattle.turn_book.specs.Plays.{Looks};
 
-    ghost then = { Looks (workings M.opens M.steps M.parts M.caller) };
+    ghost then = { Looks (workings M.opens M.steps M.parts M.published M.caller M.is_publication) };
 }
 
 /// The front is loaded at the end of a join.
@@ -40,7 +48,7 @@ impl<M: Machine> Play<M::Part, View<M::State, M::Entry, M::Part>> for Learn<M> {
     ghost use Rattle.turn_book.specs.Rule.{workings};
     ghost use Rattle.turn_book.specs.Plays.{Learns};
 
-    ghost then = { Learns (workings M.opens M.steps M.parts M.caller) };
+    ghost then = { Learns (workings M.opens M.steps M.parts M.published M.caller M.is_publication) };
 }
 
 /// The front is exchanged for one entry more, the one that N names.
@@ -53,7 +61,7 @@ impl<M: Machine, N: Entering<M::Entry>> Play<M::Part, View<M::State, M::Entry, M
     ghost use Rattle.turn_book.specs.Rule.{workings};
     ghost use Rattle.turn_book.specs.Plays.{Commits};
 
-    ghost then = { Commits (workings M.opens M.steps M.parts M.caller) N.entry };
+    ghost then = { Commits (workings M.opens M.steps M.parts M.published M.caller M.is_publication) N.entry };
 }
 
 /// A turn is swapped to 1.
@@ -66,7 +74,7 @@ impl<M: Machine> Play<M::Part, View<M::State, M::Entry, M::Part>> for Take<M> {
     ghost use Rattle.turn_book.specs.Rule.{workings};
     ghost use Rattle.turn_book.specs.Plays.{Takes};
 
-    ghost then = { λ st. Takes (workings M.opens M.steps M.parts M.caller) (st.word - 1) st };
+    ghost then = { λ st. Takes (workings M.opens M.steps M.parts M.published M.caller M.is_publication) (st.word - 1) st };
 }
 
 /// 0 is stored to the turn of a part in hand.
@@ -79,6 +87,28 @@ impl<M: Machine> Play<M::Part, View<M::State, M::Entry, M::Part>> for Give<M> {
     ghost use Rattle.turn_book.specs.Plays.{Gives};
 
     ghost then = { λ st. Gives (st.word - 1) st };
+}
+
+/// The published word of the index that N names is loaded, from the bank of the last look's generation.
+pub struct ReadWord<N> {
+    naming: PhantomData<N>,
+}
+
+impl<S, E, P, N: Naming> Play<P, View<S, E, P>> for ReadWord<N> {
+    ghost use Rattle.turn_book.specs.Plays.{ReadsWord};
+
+    ghost then = { ReadsWord N.named };
+}
+
+/// The word of the index that N names is stored to the spare bank.
+pub struct DraftWord<N> {
+    naming: PhantomData<N>,
+}
+
+impl<S, E, P, N: Naming> Play<P, View<S, E, P>> for DraftWord<N> {
+    ghost use Rattle.turn_book.specs.Plays.{DraftsWord};
+
+    ghost then = { DraftsWord N.named };
 }
 
 /// A seat for nobody is split off.

@@ -1,12 +1,53 @@
+ghost use Rattle.std.specs.Prelude.{◌≡◌, ◌+◌, ◌%◌, ◌^◌};
+ghost use Rattle.turn_book.specs.Fronts.{front_of, word_of, rise_of};
+
 use std::collections::LinkedList;
 
 /// The front word's content: how many publications the history has, and how many entries.
 #[derive(Clone, Copy, Debug, PartialEq, Eq)]
 pub struct Front {
-    /// The number of publications; 0 in a book without published words.
+    /// The number of publications, at most 2^20.
     pub generation: u32,
-    /// The number of entries.
+    /// The number of entries, at most 2^40.
     pub length: u64,
+}
+
+// The front word is the generation times this, and the length.
+const LENGTHS: u64 = 1 << 41;
+
+impl Front {
+    /// The content of a front word.
+    #[inline]
+    pub(crate) fn of_word(word: u64) -> Front
+        ensures { result ≡ front_of word }
+    {
+        Front {
+            generation: (word / LENGTHS) as u32,
+            length: word % LENGTHS,
+        }
+    }
+
+    /// The front word with this content, which fits where the front keeps a book's limits.
+    #[inline]
+    pub(crate) fn word(&self) -> u64
+        ensures { result ≡ word_of self.now % 2 ^ 64 }
+    {
+        u64::from(self.generation)
+            .wrapping_mul(LENGTHS)
+            .wrapping_add(self.length)
+    }
+}
+
+/// The front word after one entry more.
+#[inline]
+pub(crate) fn raised(word: u64, publish: bool) -> u64
+    ensures { result ≡ (word + rise_of publish) % 2 ^ 64 }
+{
+    if publish {
+        word.wrapping_add(LENGTHS + 1)
+    } else {
+        word.wrapping_add(1)
+    }
 }
 
 /// An exchange of the front that was lost: the front expected, and the front found.
@@ -68,10 +109,11 @@ pub struct View<S, E, P> {
     pub took: LinkedList<u32>,
     /// The parts whose turn it found taken.
     pub found: LinkedList<u32>,
-    // The next three come in with published words: a load of a word adds a note, a store of a spare word a draft,
-    // and a look with the registry in hand sets `knows` to the generation found.
+    /// The published words that it read.
     pub notes: LinkedList<Note>,
+    /// The words that it wrote to the spare bank since it took the registry or last published.
     pub drafts: LinkedList<Draft>,
+    /// The front's generation, where it looked since it took the registry.
     pub knows: Option<u32>,
     /// The callers for whom pens were split from the desk's.
     pub made: LinkedList<u32>,

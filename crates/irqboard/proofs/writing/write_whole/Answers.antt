@@ -1,4 +1,4 @@
-use Rattle.std.proofs.Common.{◌<◌, length, arith}
+use Rattle.std.proofs.Common.{◌<◌, length, arith, ◌∙◌}
 use Rattle.irqboard.proofs.Parts.{Appends-front, some_left, within_rest}
 use Rattle.irqboard.proofs.writing.write_whole.Goals as goal
 
@@ -12,5 +12,5 @@ turns-preserved g c =
       within = within_rest c.turns.done c.in_ok-done.field-0 c.args.text.now begun.within wrote.bound;
       each = omega arith;
       written = Appends-front _ _ _ c.turns.done c.in_ok-done.field-0 c.args.text.now begun.written wrote.bytes;
-      later = omega (arith, wrote.later);
+      kept = wrote.kept ∙ begun.kept;
     }

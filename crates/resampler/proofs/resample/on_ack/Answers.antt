@@ -1,7 +1,9 @@
-use Rattle.std.proofs.Common.{◌≡◌, ℕ, ◌+◌, List, drop, Option, Some, None, subst}
+use Rattle.std.proofs.Common.{◌≡◌, ℕ, ◌+◌, ◌≤◌, List, [], length, drop, Option, Some, None, sym, ap, ◌∙◌, subst}
+use Rattle.std.proofs.lemmas.List.{drop_all}
 use Rattle.std.specs.List.{cons_option}
 use Rattle.irq_base.specs.declared.event.Event.TheVariants.{Resampled}
-use Rattle.irq_base.proofs.SignalsLeft.{SignalsLeft, next_below, signal_next}
+use Rattle.irq_base.proofs.SignalsLeft.{SignalsLeft, next_below, signal_next, signals_done, signals_fit}
+use Rattle.irqfd_set.specs.declared.irqfds.Irqfd.{Irqfd}
 use Rattle.resampler.specs.Resample.{resampled}
 use Rattle.resampler.proofs.Steps.{next_row}
 use Rattle.resampler.proofs.resample.on_ack.Goals.{in-Some, in_default}
@@ -31,3 +33,16 @@ loop-row-preserved c =
         subst (SignalsLeft Resampled c.args.counters.now c.loop-row.counters c.args.events.now.items c.loop-row.events.items (resampled c.args.irqfds.now c.args.gsi))
         (next_row c.rows-row-items.result.now c.args.irqfds.now c.loop-row.row-index c.args.gsi c.resample_of.result c.rows-row-items.ensures c.loop-row-test.true c.resample_of.ensures found is)
         c.loop-row.invariant
+
+-- no row is left
+none_left : (walked rows : List Irqfd) (k gsi : ℕ) → walked ≡ rows → length walked ≤ k → resampled (drop k rows) gsi ≡ []
+none_left walked rows k gsi same past = ap (λ (l : List Irqfd). resampled (drop k l) gsi) (sym same) ∙ ap (λ l. resampled l gsi) (drop_all k walked past)
+
+pub returns-clause-events : goal.returns-clause-events
+returns-clause-events c =
+    signals_done Resampled c.args.counters.now c.loop-row.counters c.args.events.now.items c.loop-row.events.items (resampled c.args.irqfds.now c.args.gsi) c.is_full-within_room.ensures.fits
+    (subst (SignalsLeft Resampled c.args.counters.now c.loop-row.counters c.args.events.now.items c.loop-row.events.items (resampled c.args.irqfds.now c.args.gsi))
+    (none_left c.rows-row-items.result.now c.args.irqfds.now c.loop-row.row-index c.args.gsi c.rows-row-items.ensures c.loop-row-test.false) c.loop-row.invariant)
+
+pub returns-clause-all : goal.returns-clause-all
+returns-clause-all c = λ room. signals_fit Resampled c.args.events.now.items c.loop-row.events.items (resampled c.args.irqfds.now c.args.gsi) (returns-clause-events c) room

@@ -1,4 +1,4 @@
-use Rattle.std.proofs.Common.{arith, ap, ◌∙◌, sym, subst}
+use Rattle.std.proofs.Common.{arith, ap, ◌∙◌, sym, subst, length}
 use mathlib.Core.Option.{none}
 use Rattle.atomic_table.specs.Table.{step}
 use Rattle.turn_book.specs.Histories.{IsPrefix, entries_of}
@@ -19,7 +19,7 @@ join_seat-requires g c =
       c.requires.books.1,
       no_slots other.seat.me.0.held other.seat.me.1 c.requires.empty other.paired,
       omega arith,
-      join_allows (workings m.opens m.steps m.parts m.caller) (m.opening c.args.self.now.table.shared.key.value.items) pen.seat.id other.seat.id pen.seat.me.0 other.seat.me.0 pen.live other.live c.requires.empty (λ d is. c.requires.desk (λ absent. none_not d (sym absent ∙ is))),
+      join_allows (workings m.opens m.steps m.parts m.published m.caller m.is_publication) (m.opening c.args.self.now.table.shared.key.parts.value.items) (length c.args.self.now.table.shared.key.words.value.items) pen.seat.id other.seat.id pen.seat.me.0 other.seat.me.0 pen.live other.live c.requires.empty (λ d is. c.requires.desk (λ absent. none_not d (sym absent ∙ is))),
     )
 
 pub load-requires : goal.load-requires
@@ -29,7 +29,7 @@ load-requires g c =
     let shared = c.args.self.now.table.shared in
     let seat = c.join_seat.new.seat in
     let joined = c.join_seat.ensures in
-    (joined.0 ∙ c.requires.books.0, omega arith, learn_allows (workings m.opens m.steps m.parts m.caller) (m.opening shared.key.value.items) shared.table_id.slots seat.id seat.me (step shared.table_id.slots 0 0 0 none) (ap (λ me. me.0.spent) joined.2 ∙ c.args.pen.now.live))
+    (joined.0 ∙ c.requires.books.0, omega arith, learn_allows (workings m.opens m.steps m.parts m.published m.caller m.is_publication) (m.opening shared.key.parts.value.items) (length shared.key.words.value.items) m.bounded shared.table_id.slots seat.id seat.me (step shared.table_id.slots 0 0 0 none) (ap (λ me. me.0.spent) joined.2 ∙ c.args.pen.now.live))
 
 pub returns-clause-seen : goal.returns-clause-seen
 returns-clause-seen g c = subst (λ l. IsPrefix l c.load.new.seat.me.0.seen) (ap (λ me. me.0.before) c.join_seat.ensures.2) c.load.ensures.2.3

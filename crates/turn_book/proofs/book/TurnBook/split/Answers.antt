@@ -1,4 +1,4 @@
-use Rattle.std.proofs.Common.{arith}
+use Rattle.std.proofs.Common.{arith, length}
 use Rattle.std.specs.Prelude.{None}
 use Rattle.turn_book.specs.Rule.{workings}
 use Rattle.turn_book.proofs.Lists.{none_not}
@@ -10,4 +10,4 @@ split_seat-seat-requires g c =
     let wide = c.args.self.now.wide in
     let m = g.M.Machine in
     let pen = c.args.pen.now in
-    (c.requires.book, omega arith, split_allows (workings m.opens m.steps m.parts m.caller) (m.opening c.args.self.now.table.shared.key.value.items) pen.seat.id pen.seat.me.0 None pen.live (λ d is. absurd (none_not d is)))
+    (c.requires.book, omega arith, split_allows (workings m.opens m.steps m.parts m.published m.caller m.is_publication) (m.opening c.args.self.now.table.shared.key.parts.value.items) (length c.args.self.now.table.shared.key.words.value.items) pen.seat.id pen.seat.me.0 None pen.live (λ d is. absurd (none_not d is)))

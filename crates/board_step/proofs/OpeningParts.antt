@@ -1,0 +1,125 @@
+-- The parts at power-on that the code makes; and what parts of a sound board fit.
+use Rattle.std.proofs.Common.{◌≡◌, ℕ, ◌+◌, ◌-◌, ◌<◌, zero, suc, Bool, true, false, true≢false, List, [], ◌∷◌, ◌++◌, map, length, replicate, slice_get, slice_set, Some, None, IfSome, refl, sym, ap, ◌∙◌, subst, arith, add-one}
+use Rattle.std.proofs.lemmas.List.{length-map, length-append, length-replicate, map-append}
+use Rattle.std.specs.Prelude.{unwrap_or}
+use Rattle.std.specs.FinSet as set
+use Rattle.std.specs.FinSet.{contains-empty}
+use Rattle.std.specs.declared.option.Option.{Option}
+use Rattle.irq_bits.specs.SetLemmas.{set_below-empty}
+use Rattle.pic_8259a.specs.declared.pair.Pair.{Pair}
+use Rattle.pic_8259a.specs.Pair.{pair_at_power_on}
+use Rattle.ioapic_82093aa.specs.declared.ioapic.Ioapic.{Ioapic}
+use Rattle.ioapic_82093aa.specs.Pins.{ioapic_at_power_on}
+use Rattle.source_levels.specs.Holds.{Holds, hold, hold_cmp, is_high}
+use Rattle.source_levels.proofs.HoldLemmas.{held_where_high}
+use Rattle.lapic.specs.Registers.{LocalApic, power_on}
+use Rattle.board_model.specs.Board.{Board}
+use Rattle.board_model.specs.Hand.{flat, all_parts}
+use Rattle.irq_base.specs.declared.shape.Shape.{Shape}
+use Rattle.board_model.specs.Published.{published}
+use Rattle.board_raise.specs.declared.board_rig.BoardRig.{BoardRig}
+use Rattle.board_raise.specs.InHand.{parts_of}
+use Rattle.board_raise.specs.Fit.{InLimits, Fits, Pins, PinsFit}
+use Rattle.board_raise.specs.Send.{numbers_below}
+use Rattle.board_step.specs.Sound.{IsSound}
+use Rattle.board_step.specs.History.{opening}
+use Rattle.board_step.specs.Whole.{IsWhole, board_of}
+use Rattle.board_step.specs.Owned.{IsKept}
+use Rattle.board_step.specs.Opening.{opening_row, OpensPic, OpensIoapic, OpensRig}
+use Rattle.board_step.proofs.WholeParts.{parts_make_their_board, all_parts_are_whole}
+use Rattle.board_step.proofs.SoundOpening.{apics_many, opening_is_sound}
+
+-- ---- a board's parts fit
+
+in_row : (apics : List LocalApic) (n : ℕ) → flat (slice_get (map (λ a. Some a) apics) n) ≡ slice_get apics n
+in_row [] n = refl
+in_row (a ∷ apics) zero = refl
+in_row (a ∷ apics) (suc n) = in_row apics n
+
+numbered : (o : Option LocalApic) (n : ℕ) → (unwrap_or o (power_on n)).number ≡ n → IfSome o (λ apic. apic.number ≡ n)
+numbered None n is = tt
+numbered (Some apic) n is = is
+
+-- the parts of a sound board fit its shape
+pub sound_fits : (b : Board) (chips : Pins) → IsSound b → PinsFit chips → Fits b.shape (all_parts b) chips
+sound_fits b chips sound pins = record {
+  limits = sound.limits;
+  counters = sound.counts.number;
+  registrations = sound.named;
+  tick = (let p = sound.pending in let q = sound.calls in let r = sound.limits.calls in omega arith);
+  lapics = record {
+    places = length-map b.lapics (λ a. Some a) ∙ sound.lapics.places;
+    numbers = λ n. subst (λ o. IfSome o (λ (apic : LocalApic). apic.number ≡ n)) (sym (in_row b.lapics n)) (numbered (slice_get b.lapics n) n (sound.lapics.numbers n));
+  };
+  pins = pins;
+}
+
+-- ---- the row of local APICs
+
+-- a local APIC into the first empty place
+put_first : (xs : List (Option LocalApic)) (left : ℕ) (x : Option LocalApic) → slice_set (xs ++ replicate (suc left) None) (length xs) x ≡ (xs ++ x ∷ []) ++ replicate left None
+put_first [] left x = refl
+put_first (y ∷ xs) left x = ap (λ rest. y ∷ rest) (put_first xs left x)
+
+-- ---- no pin is held
+
+not_high : (pin : ℕ) → is_high set.empty pin ≡ false
+not_high pin = by_test (is_high set.empty pin) refl
+  where
+    by_test : (t : Bool) → is_high set.empty pin ≡ t → t ≡ false
+    by_test true high = (let one = held_where_high set.empty pin high in absurd (true≢false (sym one.1 ∙ contains-empty hold_cmp (hold pin one.0))))
+    by_test false low = refl
+
+opened_pic : OpensPic (record { pair = pair_at_power_on; levels = set.empty })
+opened_pic = record {
+  opens = refl;
+  pins = record {
+    master = sym (set_below-empty 8 (is_high set.empty) (λ n low. not_high n));
+    slave = sym (set_below-empty 8 (λ level. is_high set.empty (level + 8)) (λ n low. not_high (n + 8)));
+  };
+}
+
+opened_ioapic : OpensIoapic (record { ioapic = ioapic_at_power_on; levels = set.empty })
+opened_ioapic = record { opens = refl; pins = sym (set_below-empty 24 (is_high set.empty) (λ n low. not_high n)) }
+
+pub opens_pic : (pair : Pair) (holds : Holds) → pair ≡ pair_at_power_on → holds ≡ set.empty → OpensPic (record { pair = pair; levels = holds })
+opens_pic pair holds p h = subst (λ (x : Pair × Holds). OpensPic (record { pair = x.0; levels = x.1 })) (λ i. (sym p i, sym h i)) opened_pic
+
+pub opens_ioapic : (chip : Ioapic) (holds : Holds) → chip ≡ ioapic_at_power_on → holds ≡ set.empty → OpensIoapic (record { ioapic = chip; levels = holds })
+opens_ioapic chip holds p h = subst (λ (x : Ioapic × Holds). OpensIoapic (record { ioapic = x.0; levels = x.1 })) (λ i. (sym p i, sym h i)) opened_ioapic
+
+-- ---- the row after one processor more
+
+pub row_next : (n cpus : ℕ) → n < cpus → slice_set (opening_row n (cpus - n)) n (Some (power_on n)) ≡ opening_row (n + 1) (cpus - (n + 1))
+row_next n cpus low =
+    let xs = map (λ a. Some a) (map power_on (numbers_below n)) in
+    let left = cpus - (n + 1) in
+    let more : cpus - n ≡ suc left = omega (arith, low) in
+    let many : length xs ≡ n = length-map (map power_on (numbers_below n)) (λ a. Some a) ∙ apics_many n in
+    ap (λ k. slice_set (opening_row n k) n (Some (power_on n))) more
+    ∙ ap (λ k. slice_set (opening_row n (suc left)) k (Some (power_on n))) (sym many)
+    ∙ put_first xs left (Some (power_on n))
+    ∙ ap (λ l. l ++ replicate left None) (sym (ap (map (λ a. Some a)) (map-append power_on (numbers_below n) (n ∷ [])) ∙ map-append (λ a. Some a) (map power_on (numbers_below n)) (power_on n ∷ [])))
+    ∙ ap (λ k. opening_row k left) (sym (add-one n))
+
+pub length-opening_row : (n left : ℕ) → length (opening_row n left) ≡ n + left
+length-opening_row n left =
+    let xs = map (λ a. Some a) (map power_on (numbers_below n)) in
+    let p : length xs ≡ n = length-map (map power_on (numbers_below n)) (λ a. Some a) ∙ apics_many n in
+    let q = length-append xs (replicate left None) in
+    let r = length-replicate left (let x : Option LocalApic = None in x) in
+    omega (arith, p, q, r)
+
+-- ---- the board at power-on
+
+pub opened_is : (shape : Shape) (rig : BoardRig) → OpensRig shape rig → board_of shape (parts_of rig.parts) 0 0 ≡ opening shape
+opened_is shape rig opens = ap (λ q. board_of shape q 0 0) opens.parts ∙ parts_make_their_board (opening shape)
+
+pub opened_kept : (shape : Shape) (rig : BoardRig) → InLimits shape → OpensRig shape rig → IsKept (record { shape = shape; rig = rig; length = 0; publications = 0 })
+opened_kept shape rig limits opens = record {
+  whole = subst (IsWhole shape) (sym opens.parts) (all_parts_are_whole (opening shape) (apics_many shape.cpus));
+  sound = subst IsSound (sym (opened_is shape rig opens)) (opening_is_sound shape limits);
+  pins = opens.pins;
+  words = (λ i. published (opens.words i) (opens.tick i)) ∙ ap (λ (b : Board). published b.registry shape.tick) (sym (opened_is shape rig opens));
+  tick = opens.tick;
+}

@@ -1,0 +1,38 @@
+use Rattle.std.proofs.Common.{sym, ap, ◌∙◌, subst}
+use Rattle.board_model.specs.Board.{Board}
+use Rattle.board_model.specs.Hand.{all_parts}
+use Rattle.board_raise.specs.Fit.{Fits}
+use Rattle.board_raise.specs.InHand.{parts_of, chips_of}
+use Rattle.board_raise.specs.declared.parts.Parts as code
+use Rattle.board_step.specs.Whole.{IsWhole, board_of}
+use Rattle.board_step.specs.Owned.{board_in}
+use Rattle.board_step.proofs.WholeParts.{board_has_its_parts}
+use Rattle.board_step.proofs.OpeningParts.{sound_fits}
+use Rattle.board_step.proofs.board.Board.into_parts.Goals as goal
+
+pub returns-clause-parts : goal.returns-clause-parts
+returns-clause-parts c =
+    let a = c.self.inside in
+    ap parts_of c.into_parts.ensures.parts
+    ∙ sym (board_has_its_parts a.shape (parts_of a.rig.parts) a.length a.publications c.self.invariant.whole)
+    ∙ ap all_parts c.self.view_is
+
+pub returns-clause-fits : goal.returns-clause-fits
+returns-clause-fits c =
+    let a = c.self.inside in
+    let same = board_has_its_parts a.shape (parts_of a.rig.parts) a.length a.publications c.self.invariant.whole in
+    let fits : Fits a.shape (parts_of a.rig.parts) (chips_of a.rig.parts) = subst (λ q. Fits a.shape q (chips_of a.rig.parts)) same (sound_fits (board_in a) (chips_of a.rig.parts) c.self.invariant.sound c.self.invariant.pins) in
+    subst (λ (x : _ × _). Fits x.0 (parts_of x.1) (chips_of x.1)) (λ i. ((c.self.view_is i).shape, sym c.into_parts.ensures.parts i)) fits
+
+pub returns-clause-whole : goal.returns-clause-whole
+returns-clause-whole c =
+    let a = c.self.inside in
+    let whole : IsWhole a.shape (parts_of c.into_parts.result.0) = subst (λ (p : code.Parts). IsWhole a.shape (parts_of p)) (sym c.into_parts.ensures.parts) c.self.invariant.whole in
+    subst (λ (b : Board). IsWhole b.shape (parts_of c.into_parts.result.0)) c.self.view_is whole
+
+pub returns-clause-made : goal.returns-clause-made
+returns-clause-made c =
+    let a = c.self.inside in
+    ap (λ (b : Board). board_of b.shape (parts_of c.into_parts.result.0) b.length b.publications) (sym c.self.view_is)
+    ∙ ap (λ (p : code.Parts). board_of a.shape (parts_of p) a.length a.publications) c.into_parts.ensures.parts
+    ∙ c.self.view_is

@@ -1,0 +1,6 @@
+use Rattle.std.proofs.Common.{◌≡◌, ◌-◌}
+use Rattle.board_step.specs.Opening.{opening_row}
+use Rattle.board_step.proofs.opening.lapics.Given as goal
+
+abbrev pub invariant-loop-n : goal.invariant-loop-n
+invariant-loop-n l = l.row ≡ opening_row l.n (l.cpus - l.n)

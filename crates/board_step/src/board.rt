@@ -1,0 +1,147 @@
+//! A whole board on one thread.
+ghost use Rattle.std.specs.Prelude.{◌≡◌, ◌<◌, ◌↔◌, IfOk, IsErrOf, Err};
+ghost use Rattle.board_model.specs.Run.{Wishes};
+ghost use Rattle.board_model.specs.Published.{published};
+ghost use Rattle.board_model.specs.Hand.{all_parts};
+ghost use Rattle.board_raise.specs.BoardRig.{words_in};
+ghost use Rattle.board_raise.specs.Fit.{InLimits, Fits};
+ghost use Rattle.board_raise.specs.InHand.{parts_of, chips_of};
+ghost use Rattle.board_step.specs.declared.open.OpenError.TheVariants as errors;
+ghost use Rattle.board_step.specs.Due.{AnswersDue};
+ghost use Rattle.board_step.specs.History.{opening};
+ghost use Rattle.board_step.specs.Sound.{IsSound};
+ghost use Rattle.board_step.specs.Whole.{IsWhole, board_of};
+
+use crate::due::{Due, due_in_hand};
+use crate::open::OpenError;
+use crate::opening::{is_in_limits, rig};
+use board_raise::{BoardRig, Parts, Words};
+use irq_base::{NoMemory, Shape};
+use std::alloc::Global;
+use std::marker::Model;
+
+/// A board: all parts of its shape, how many calls it has answered, and how many of these were publications.
+///
+/// Contracts see it as the board of the model. Each one is sound (`Board::keeps_sound`), as is each board of a legal history.
+#[derive(Drop)]
+pub struct Board {
+    shape: Shape,
+    /// All parts, and the words of the registry as it is now.
+    rig: BoardRig,
+    length: u64,
+    publications: u32,
+}
+
+impl Model for Board {
+    ghost use Rattle.std.specs.Coded.{codes};
+    ghost use Rattle.irq_bits.specs.Members.{numbers_code};
+    ghost use Rattle.route_table.specs.Tables.{table_code};
+    ghost use Rattle.source_levels.specs.Holds.{holds_code};
+    ghost use Rattle.lapic.specs.Registers.{apic_code};
+    ghost use Rattle.board_model.specs.Board.{Board as Whole};
+
+    ghost Value = { Whole };
+
+    ghost coded = { Prim.hlevel (codes, numbers_code, table_code, holds_code, apic_code) };
+
+    ghost use Rattle.board_step.specs.Owned.{board_in, IsKept};
+
+    ghost view = { board_in };
+
+    ghost invariant = { IsKept };
+}
+
+impl Board {
+    /// The board of a shape at power-on: each chip at its power-on, every local APIC disabled, no registration, GSI n below 16
+    /// on pin n of both chips and GSI n from 16 to 23 on pin n of the I/O APIC, and ticks reinjected. It takes all memory that
+    /// the board will ever need.
+    pub fn power_on(alloc: Global, shape: &Shape) -> Result<Board, OpenError>
+        ensures bad { IsErrOf result errors.BadShape ↔ (InLimits shape.now → ⊥) }
+        ensures opens { IfOk result (λ board. board ≡ opening shape.now) }
+    {
+        if !is_in_limits(shape) {
+            return Err(OpenError::BadShape);
+        }
+        match rig(alloc, shape) {
+            Err(NoMemory) => Err(OpenError::NoMemory),
+            Ok(rig) => Ok(Board {
+                shape: *shape,
+                rig,
+                length: 0,
+                publications: 0,
+            }),
+        }
+    }
+
+    /// What it was made with.
+    pub fn shape(&self) -> Shape
+        ensures { result ≡ self.now.shape }
+    {
+        self.shape
+    }
+
+    /// How many calls it has answered.
+    pub fn length(&self) -> u64
+        ensures { result ≡ self.now.length }
+    {
+        self.length
+    }
+
+    /// How many of these were publications.
+    pub fn publications(&self) -> u32
+        ensures { result ≡ self.now.publications }
+    {
+        self.publications
+    }
+
+    /// Does nothing: it tells that the board is sound, as each board is.
+    pub fn keeps_sound(&self)
+        ensures { IsSound self.now }
+    {
+        let _ = &self.length;
+    }
+
+    /// What an `Ack` by the processor would answer now. Nothing changes.
+    pub fn due(&self, cpu: u16) -> Due
+        requires { cpu < self.now.shape.cpus }
+        ensures { (ws : Wishes) → AnswersDue self.now cpu result ws }
+    {
+        due_in_hand(self.rig.all(), cpu)
+    }
+
+    /// All its parts, which fit its shape, and the words that it publishes.
+    pub fn into_parts(self) -> (Parts, Words)
+        ensures parts { parts_of result.0 ≡ all_parts self }
+        ensures whole { IsWhole self.shape (parts_of result.0) }
+        ensures made { board_of self.shape (parts_of result.0) self.length self.publications ≡ self }
+        ensures fits { Fits self.shape (parts_of result.0) (chips_of result.0) }
+        ensures words { words_in result.1 ≡ published self.registry self.shape.tick }
+        ensures tick { result.1.tick ≡ self.shape.tick }
+    {
+        self.rig.into_parts()
+    }
+
+    /// The board that has these parts, after so many calls and so many publications. The words are those of its registry. It
+    /// takes no memory.
+    pub fn of_parts(
+        shape: &Shape,
+        parts: Parts,
+        words: Words,
+        length: u64,
+        publications: u32,
+    ) -> Board
+        requires whole { IsWhole shape.now (parts_of parts) }
+        requires fits { Fits shape.now (parts_of parts) (chips_of parts) }
+        requires sound { IsSound (board_of shape.now (parts_of parts) length publications) }
+        requires words { words_in words ≡ published (board_of shape.now (parts_of parts) length publications).registry shape.now.tick }
+        requires tick { words.tick ≡ shape.now.tick }
+        ensures { result ≡ board_of shape.now (parts_of parts) length publications }
+    {
+        Board {
+            shape: *shape,
+            rig: BoardRig::new(parts, words),
+            length,
+            publications,
+        }
+    }
+}

@@ -1,0 +1,113 @@
+//! A run of the program: its words, its work, its line on standard error and its exit status.
+ghost use Rattle.std.specs.Prelude.{◌≡◌, ◌≢◌, IfOk, IsTrue};
+ghost use Rattle.std.specs.Io.KnownBytes.{Appends};
+ghost use Rattle.io_edge.specs.Faults.{Rose};
+ghost use Rattle.irqboard.specs.Answers.{is_replay, status_of, said_of, ReadsRightly, JudgesRightly, WritesRightly, IsGood, IsDone};
+ghost use Rattle.irqboard.specs.Output.{AppendsFront};
+ghost use Rattle.irqboard.specs.Words.{words_in, KnowsWords};
+ghost use Rattle.std.specs.Process.{exit_status};
+
+use crate::outcome::Outcome;
+use crate::top::irqboard;
+use crate::words::{without_words, words_of};
+use crate::writing::write_whole;
+use io_edge::{Gate, Sink, Source};
+use std::alloc::Global;
+use std::env::Args;
+use std::io;
+use std::marker::Model;
+use std::process::{ExitCode, Termination};
+
+/// What a run came to, before it is said. Only `asked` makes one, and it cannot be let go: only `said` takes it.
+pub struct Answered {
+    outcome: Outcome,
+}
+
+impl Model for Answered {
+    ghost use Rattle.irqboard.specs.declared.outcome.Outcome.{Outcome};
+
+    ghost Value = { Outcome };
+
+    ghost view = { λ a. a.outcome };
+}
+
+/// A run whose line was said. Only `said` makes one, and it cannot be let go: a `main` that asked has to give it back, and ends with
+/// the outcome's status.
+pub struct Ended {
+    outcome: Outcome,
+}
+
+impl Model for Ended {
+    ghost use Rattle.irqboard.specs.declared.outcome.Outcome.{Outcome};
+
+    ghost Value = { Outcome };
+
+    ghost view = { λ e. e.outcome };
+}
+
+/// Asks the top call for the words of a command line, whose first text is the program's name. Where the texts are not to be had,
+/// nothing is read or written.
+pub fn asked<S: Source, K: Sink, G: Gate>(
+    alloc: Global,
+    texts: io::Result<Args>,
+    source: &mut S,
+    sink: &mut K,
+    gate: &G,
+) -> Answered
+    ensures usage { KnowsWords texts result }
+    ensures length { ReadsRightly (S.left source.old) (S.left source.new) result }
+    ensures input { JudgesRightly (S.left source.old) (S.left source.new) result }
+    ensures output { WritesRightly (S.left source.old) (K.holds sink.old) (K.holds sink.new) result }
+    ensures read_fault { result ≡ Outcome.ReadFault → Rose (S.faults source.old) (S.faults source.new) }
+    ensures write_fault { result ≡ Outcome.WriteFault → Rose (K.faults sink.old) (K.faults sink.new) }
+    ensures source_faults { result ≢ Outcome.ReadFault → S.faults source.new ≡ S.faults source.old }
+    ensures sink_faults { result ≢ Outcome.WriteFault → K.faults sink.new ≡ K.faults sink.old }
+    ensures complete { IfOk texts (λ t. IsTrue (is_replay (words_in t))
+        → IsGood (S.left source.old)
+        → ¬ Rose (S.faults source.old) (S.faults source.new)
+        → ¬ Rose (K.faults sink.old) (K.faults sink.new)
+        → IsDone result) }
+{
+    let texts = match texts {
+        Ok(texts) => texts,
+        Err(error) => {
+            return Answered {
+                outcome: without_words(&error),
+            };
+        }
+    };
+    let Ok(words) = words_of(alloc, texts) else {
+        return Answered {
+            outcome: Outcome::NoMemory,
+        };
+    };
+    Answered {
+        outcome: irqboard(alloc, words.as_slice(), source, sink, gate),
+    }
+}
+
+impl Answered {
+    /// Says the outcome's line on standard error. A fault of standard error changes nothing of the outcome; a front of the line is
+    /// then written.
+    pub fn said<E: Sink>(self, errors: &mut E) -> Ended
+        ensures outcome { result ≡ self }
+        ensures line { ¬ Rose (E.faults errors.old) (E.faults errors.new)
+            → Appends (E.holds errors.old) (E.holds errors.new) (said_of self) }
+        ensures front { AppendsFront (E.holds errors.old) (E.holds errors.new) (said_of self) }
+    {
+        let Answered { outcome } = self;
+        let line = outcome.said();
+        let _ = write_whole(errors, line.as_str().as_bytes());
+        Ended { outcome }
+    }
+}
+
+impl Termination for Ended {
+    /// The exit status is the outcome's.
+    fn report<R: Eprint>(self, _rt: &R) -> ExitCode
+        ensures { exit_status result ≡ status_of self }
+    {
+        let Ended { outcome } = self;
+        ExitCode::from(outcome.status())
+    }
+}

@@ -1,0 +1,12 @@
+pub mod Causes
+pub mod Words
+pub mod Numbers
+pub mod Commands
+pub mod Scripts
+pub mod Asks
+pub mod Index
+pub mod Draft
+pub mod Faults
+pub mod Answers
+pub mod Spelling
+pub mod Fitting

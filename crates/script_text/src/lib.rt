@@ -1,0 +1,26 @@
+//! Scripts: the grammar of their lines, what is wrong with the first bad one, and what each actor of a script asks next.
+//!
+//! `docs/SCRIPTS.md` tells the grammar in words, and which definition says each sentence.
+#![tactic(auto)]
+
+mod actor_lines;
+mod causes;
+mod commands;
+mod draft;
+mod judging;
+mod laws;
+mod numbers;
+mod progress;
+mod rows;
+mod script;
+mod spelling;
+mod task;
+mod words;
+
+pub use causes::LineFault;
+pub use commands::command;
+pub use laws::{scripts_fit, texts_are_read};
+pub use progress::{Phase, Progress};
+pub use script::{Script, ScriptFault, parse};
+pub use spelling::push_call;
+pub use task::{ActorLine, Task};
