@@ -70,7 +70,7 @@ module _ (w : Walk) where
   end_level_holds cpus s resends clears (pins.Ioapic pin) = λ b ws fit. w.looks parts.Ioapic (λ part. if (entry_at (ioapic_of part) pin).level then clear_and_resend cpus pin part else done tt) b ws
       (either_at w (entry_at (ioapic_of b.ioapic) pin).level (clear_and_resend cpus pin b.ioapic) (done tt) b ws
       (w.puts parts.Ioapic (with_ioapic b.ioapic (acknowledged (ioapic_of b.ioapic) pin)) (resend cpus pin (resend_of (acknowledged (ioapic_of b.ioapic) pin) pin)) b ws fit (clears pin b fit)
-          (resend_holds cpus s pin (resends pin) (resend_of (acknowledged (ioapic_of b.ioapic) pin) pin) (with_part b parts.Ioapic (with_ioapic b.ioapic (acknowledged (ioapic_of b.ioapic) pin))) ws))
+      (resend_holds cpus s pin (resends pin) (resend_of (acknowledged (ioapic_of b.ioapic) pin) pin) (with_part b parts.Ioapic (with_ioapic b.ioapic (acknowledged (ioapic_of b.ioapic) pin))) ws))
       (w.ends tt b ws fit))
 
   module _ (routing : Routing) (shape : Shape) where
