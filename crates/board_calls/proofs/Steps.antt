@@ -1,5 +1,5 @@
 -- Calls that signal are their first steps and what follows.
-use Rattle.std.proofs.Common.{◌≡◌, ℕ, Bool, true, false, if◌then◌else◌, List, Ok, Err, Some, None, refl, ap}
+use Rattle.std.proofs.Common.{◌≡◌, ℕ, Bool, true, false, if◌then◌else◌, List, Ok, Err, Some, None, refl}
 use Rattle.std.specs.Prelude.{Result}
 use Rattle.std.specs.declared.option.Option.{Option}
 use Rattle.irq_base.specs.Refusals.{first_of}
@@ -15,7 +15,7 @@ use Rattle.tick_reinject.specs.declared.state.TickState.{TickState}
 use Rattle.tick_reinject.specs.Ticks.{tick_injects, ticked, tick_injected}
 use Rattle.board_model.specs.Registry.{RegistryPart}
 use Rattle.board_model.specs.Routing.{Routing}
-use Rattle.board_model.specs.Plan.{the_reply, Plan, done, look, put, reply, ◌>>=◌, ◌>>◌}
+use Rattle.board_model.specs.Plan.{the_reply, Plan, look, put, reply, ◌>>=◌, ◌>>◌}
 use Rattle.board_raise.specs.Shown.{without_sets}
 use Rattle.board_ack.specs.Ticks.{inject_tick}
 use Rattle.board_step.specs.Refusals.{assign_reasons}

@@ -3,11 +3,8 @@ use Rattle.std.specs.Prelude.{◌≡◌, ◌-◌, List, ◌++◌, length, take, 
 use Rattle.irq_base.specs.declared.event.Event.{Event}
 use Rattle.irq_base.specs.declared.reply.Reply.{Reply}
 use Rattle.board_model.specs.Hand.{Parts}
-use Rattle.board_model.specs.Plan.{Plan}
-use Rattle.board_model.specs.Run.{Wishes, OnParts, run_on}
+use Rattle.board_model.specs.Run.{Wishes, OnParts}
 use Rattle.board_raise.specs.declared.lacks.Lacks.{Lacks}
-use Rattle.board_raise.specs.declared.parts.Parts as code
-use Rattle.board_raise.specs.InHand.{parts_of}
 use Rattle.board_raise.specs.Shown.{EndsWith, StopsAt}
 
 -- events that are told after others: there is room for 640 in all, and what finds none is left out
