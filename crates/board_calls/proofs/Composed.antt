@@ -1,7 +1,8 @@
 -- Calls in steps: what a plan answers by what its parts do.
-use Rattle.std.proofs.Common.{◌≡◌, Bool, true, false, if◌then◌else◌, List, [], ◌∷◌, Ok, Err, Some, None, refl, sym, ap, subst, ◌∙◌}
+use Rattle.std.proofs.Common.{◌≡◌, List, [], ◌∷◌, Ok, Err, None, refl, sym, ap, subst, ◌∙◌}
 use Rattle.std.specs.Prelude.{Result}
-use Rattle.std.specs.declared.option.Option.{Option}
+use Rattle.std.proofs.lemmas.List.{append-nil}
+use Rattle.irq_base.specs.declared.event.Event.{Event}
 use Rattle.irq_base.specs.declared.message.Message.{Message}
 use Rattle.irq_base.specs.declared.reply.Reply.{Reply}
 use Rattle.irq_base.specs.declared.reply.Reply.TheVariants.{Signal}
@@ -35,6 +36,12 @@ does_from {S} m result known old lent left after ws later is was same others h =
     subst (λ (r : Result S Lacks). DoesQuietly (λ (s : S). s) r (parts_of after) later (run_on m (parts_of old) ws)) is
     (does_on {S = S} {A = S} (λ s. s) result m old lent left after ws later was same others h)
 
+-- a plan that tells events, and then the answer
+pub told_then_said : (m : Plan (Unit {0})) (answer : Reply) (q : Parts) (ws : Wishes) (told : List Event) (s : Parts) (later : Wishes) → EndsWith tt told [] s later (run_on m q ws) → EndsWith tt told (answer ∷ []) s later (run_on (m >> reply answer) q ws)
+told_then_said m answer q ws told s later h =
+    subst (λ es. EndsWith tt es (answer ∷ []) s later (run_on (m >> reply answer) q ws)) (append-nil told)
+    (then_ends (λ _. reply answer) m q ws tt told [] s later tt [] (answer ∷ []) s later h (said answer s later))
+
 -- ---- a plan that answers, with another after it; x stands for what a rig answered and told
 
 module _ {X A : Type 0} (m : X → Plan A) (k : A → Plan (Unit {0})) (x told : X) (lent old : Parts) (ws olds : Wishes) (xs : x ≡ told) (ps : lent ≡ old) (us : ws ≡ olds) where
@@ -51,6 +58,11 @@ module _ {X A : Type 0} (m : X → Plan A) (k : A → Plan (Unit {0})) (x told :
     pub replied_lacks : (p : Part) → StopsAt p (run_on (k a) r vs) → StopsAt p (run_on (m told >>= k) old olds)
     replied_lacks p next = at_told (StopsAt p) (then_stops k (m x) lent ws a [] (answer ∷ []) r vs p first next)
 
+  -- the same of one that tells events
+  module _ (a : A) (es : List Event) (rs : List Reply) (r : Parts) (vs : Wishes) (first : EndsWith a es rs r vs (run_on (m x) lent ws)) where
+    pub ends_then : (s : Parts) (later : Wishes) → EndsWith tt [] [] s later (run_on (k a) r vs) → EndsWith tt es rs s later (run_on (m told >>= k) old olds)
+    ends_then s later next = at_told (EndsWith tt es rs s later) (then_quiet k (m x) lent ws a es rs r vs tt s later first next)
+
   pub lacks_at_once : (p : Part) → StopsAt p (run_on (m x) lent ws) → StopsAt p (run_on (m told >>= k) old olds)
   lacks_at_once p h = at_told (StopsAt p) (stops_first k (m x) lent ws p h)
 
@@ -63,6 +75,9 @@ module _ {A : Type 0} (m : Plan A) (k : A → Plan (Unit {0})) (whole : Plan (Un
   module _ (a : A) (r : Parts) (vs : Wishes) (first : EndsWith a [] [] r vs (run_on m q ws)) where
     pub second_replies : (answer : Reply) (s : Parts) (later : Wishes) → EndsWith tt [] (answer ∷ []) s later (run_on (k a) r vs) → EndsWith tt [] (answer ∷ []) s later (run_on whole q ws)
     second_replies answer s later next = at_whole (EndsWith tt [] (answer ∷ []) s later) (then_ends k m q ws a [] [] r vs tt [] (answer ∷ []) s later first next)
+
+    pub second_ends : (es : List Event) (rs : List Reply) (s : Parts) (later : Wishes) → EndsWith tt es rs s later (run_on (k a) r vs) → EndsWith tt es rs s later (run_on whole q ws)
+    second_ends es rs s later next = at_whole (EndsWith tt es rs s later) (then_ends k m q ws a [] [] r vs tt es rs s later first next)
 
     pub second_lacks : (p : Part) → StopsAt p (run_on (k a) r vs) → StopsAt p (run_on whole q ws)
     second_lacks p next = at_whole (StopsAt p) (then_stops k m q ws a [] [] r vs p first next)

@@ -1,5 +1,5 @@
 -- Parts in hand that fit a shape fit it still after one of them has changed.
-use Rattle.std.proofs.Common.{◌≡◌, ℕ, ◌+◌, ◌^◌, ◌<◌, ◌≤◌, length, Bool, List, not, filter, Some, None, sym, subst}
+use Rattle.std.proofs.Common.{◌≡◌, ℕ, ◌+◌, ◌^◌, ◌<◌, ◌≤◌, length, Bool, not, filter, Some, None, sym, subst}
 use Rattle.std.proofs.lemmas.List.Elements.{All-filter}
 use Rattle.std.specs.Prelude.{option_map, IfSome, MatchOption}
 use Rattle.std.specs.declared.option.Option.{Option}

@@ -1,5 +1,5 @@
 -- Pins of which no hold is left are low, and holds that are taken out pin by pin.
-use Rattle.std.proofs.Common.{◌≡◌, ℕ, ◌+◌, ◌%◌, ◌<◌, ◌≤◌, Bool, true, false, not, ◌&&◌, ◌||◌, nat_eq, nat_lt, nat_le, if◌then◌else◌, List, length, get_or, refl, sym, ap, ◌∙◌, true≢false, arith, Some, None}
+use Rattle.std.proofs.Common.{◌≡◌, ℕ, ◌+◌, ◌%◌, ◌<◌, ◌≤◌, Bool, true, false, not, ◌&&◌, ◌||◌, nat_eq, nat_lt, nat_le, if◌then◌else◌, List, length, get_or, refl, sym, ap, ◌∙◌, arith, None}
 use Rattle.std.proofs.lemmas.Bool.Decides.{nat_tests}
 use Rattle.std.proofs.lemmas.List.{get_or_past}
 use Rattle.std.specs.Cmp.{first_so, second_so}
@@ -13,9 +13,8 @@ use Rattle.pic_8259a.specs.Pair.{pin_set}
 use Rattle.pic_8259a.specs.declared.pair.Pair.{Pair}
 use Rattle.ioapic_82093aa.specs.Pins.{lowered}
 use Rattle.ioapic_82093aa.specs.declared.ioapic.Ioapic.{Ioapic}
-use Rattle.source_levels.specs.Holds.{Hold, Holds, hold, hold_cmp, is_of, is_high}
+use Rattle.source_levels.specs.Holds.{Hold, Holds, hold, is_of, is_high}
 use Rattle.source_levels.proofs.HoldLemmas.{hold_cmp_total, hold_cmp-IsAntisymmetric, high_where_held, held_where_high}
-use Rattle.board_model.specs.Chips.{master_high, slave_high, ioapic_high}
 use Rattle.board_raise.specs.Fit.{PairFits, IoapicFits}
 use Rattle.board_step.specs.Registrations.{is_same_gsi}
 use Rattle.board_calls.specs.Moved.{without_pin, kept_by}

@@ -6,3 +6,5 @@ pub mod Fitting
 pub mod Rows
 pub mod Composed
 pub mod Steps
+pub mod Room
+pub mod Counts

@@ -1,11 +1,17 @@
 -- Values in lengths, and the first of reasons.
-use Rattle.std.proofs.Common.{◌≡◌, ℕ, ◌+◌, ◌*◌, ◌/◌, ◌^◌, ◌<◌, ◌≤◌, Bool, true, false, nat_eq, nat_le, nat_lt, if◌then◌else◌, List, [], ◌∷◌, refl, sym, ap, ◌∙◌, arith, zero, suc, Some, None}
+use Rattle.std.proofs.Common.{◌≡◌, ℕ, ◌+◌, ◌*◌, ◌/◌, ◌^◌, ◌<◌, ◌≤◌, true, false, nat_eq, nat_le, nat_lt, if◌then◌else◌, List, [], ◌∷◌, refl, ap, subst, arith, zero, suc, Some, None}
 use Rattle.std.proofs.lemmas.Bool.Decides.{nat_tests}
-use Rattle.std.proofs.lemmas.Nat.{pow_pos}
 use Rattle.std.proofs.Math.Pow.{pow_mono}
 use Rattle.std.proofs.Math.Nat.{div-eq_of_lt, lt-div-mul-add}
 use Rattle.std.specs.Option.{option_or}
+use Rattle.std.specs.declared.option.Option.{Option}
 use Rattle.irq_base.specs.Refusals.{Reason, first_of}
+use Rattle.irq_base.specs.declared.call.Call.{Call}
+use Rattle.irq_base.specs.declared.call.Call.TheVariants.{Attach}
+use Rattle.irq_base.specs.declared.call.Space.{Space}
+use Rattle.irq_base.specs.declared.refusal.Refusal.TheVariants.{ChipAddress}
+use Rattle.irq_base.specs.declared.shape.Shape.{Shape}
+use Rattle.board_step.specs.Refusals.{bad_ioevent, bad_counter, is_chip_address, range_reasons}
 
 -- a value of 64 bits fits each length from 8 bytes on
 pub fits_long : (value len : ℕ) → value < 2 ^ 64 → 8 ≤ len → nat_le 8 len ≡ nat_lt value (2 ^ (8 * len))
@@ -35,3 +41,22 @@ or_reasons r rs = elim r.0 as (λ t. option_or (if t then Some r.1 else None) (f
 -- two before others
 pub or_two_reasons : (r s : Reason) (rs : List Reason) → option_or (option_or (first_of (r ∷ [])) (first_of (s ∷ []))) (first_of rs) ≡ first_of (r ∷ s ∷ rs)
 or_two_reasons r s rs = elim r.0 as (λ t. option_or (option_or (if t then Some r.1 else None) (first_of (s ∷ []))) (first_of rs) ≡ (if t then Some r.1 else first_of (s ∷ rs))) [ true ↦ refl | false ↦ or_reasons s rs ]
+
+-- ---- a call that is not refused
+
+Some_none : {A : Type 0} (x : A) → Some x ≡ None → ⊥
+Some_none x e = cc
+
+-- no reason holds
+passes : (r : Reason) (rs : List Reason) → first_of (r ∷ rs) ≡ None → (r.0 ≡ false) × (first_of rs ≡ None)
+passes r rs e = elim r.0 as (λ t. (if t then Some r.1 else first_of rs) ≡ None → (t ≡ false) × (first_of rs ≡ None)) [ true ↦ λ f. absurd (Some_none r.1 f) | false ↦ λ f. (refl, f) ] e
+
+-- the counter of an ioeventfd that is to be made is there
+pub attached_counter : (shape : Shape) (call : Call) (space : Space) (address len counter : ℕ) (want : Option ℕ) → call ≡ Attach space address len counter want → first_of (range_reasons shape call) ≡ None → counter < shape.counters
+attached_counter shape call space address len counter want is range =
+    let good = subst (λ x. first_of (range_reasons shape x) ≡ None) is range in
+    let after = (passes (bad_ioevent space address len want) (bad_counter shape counter ∷ (is_chip_address space address, ChipAddress) ∷ []) good).1 in
+    there shape.counters (passes (bad_counter shape counter) ((is_chip_address space address, ChipAddress) ∷ []) after).0
+  where
+    there : (n : ℕ) → nat_le n counter ≡ false → counter < n
+    there n h = grind (h, arith, nat_tests)

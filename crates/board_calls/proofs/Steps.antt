@@ -1,8 +1,11 @@
 -- Calls that signal are their first steps and what follows.
-use Rattle.std.proofs.Common.{◌≡◌, ℕ, Bool, true, false, if◌then◌else◌, Some, None, refl, ap}
+use Rattle.std.proofs.Common.{◌≡◌, ℕ, Bool, true, false, if◌then◌else◌, List, Ok, Err, Some, None, refl}
+use Rattle.std.specs.Prelude.{Result}
 use Rattle.std.specs.declared.option.Option.{Option}
-use Rattle.irq_base.specs.declared.reply.Reply.TheVariants.{Removed, Held}
-use Rattle.irq_base.specs.declared.shape.Part.TheVariants.{Registry, Tick}
+use Rattle.irq_base.specs.Refusals.{first_of}
+use Rattle.irq_base.specs.declared.refusal.Refusal.{Refusal}
+use Rattle.irq_base.specs.declared.reply.Reply.TheVariants.{Done, Removed, Held, Refused}
+use Rattle.irq_base.specs.declared.shape.Part.TheVariants.{Registry, Counters, Tick}
 use Rattle.irq_base.specs.declared.shape.Shape.{Shape}
 use Rattle.irq_base.specs.declared.status.Status.{Status}
 use Rattle.irq_base.specs.declared.status.Status.TheVariants.{Delivered, Coalesced, Ignored, Lowered}
@@ -12,12 +15,13 @@ use Rattle.tick_reinject.specs.declared.state.TickState.{TickState}
 use Rattle.tick_reinject.specs.Ticks.{tick_injects, ticked, tick_injected}
 use Rattle.board_model.specs.Registry.{RegistryPart}
 use Rattle.board_model.specs.Routing.{Routing}
-use Rattle.board_model.specs.Plan.{the_reply, Plan, done, look, put, reply, ◌>>=◌, ◌>>◌}
+use Rattle.board_model.specs.Plan.{the_reply, Plan, look, put, reply, ◌>>=◌, ◌>>◌}
 use Rattle.board_raise.specs.Shown.{without_sets}
 use Rattle.board_ack.specs.Ticks.{inject_tick}
-use Rattle.board_step.specs.Registrations.{release, deassigned, deassign}
+use Rattle.board_step.specs.Refusals.{assign_reasons}
+use Rattle.board_step.specs.Registrations.{unless_refused, release, deassigned, deassign, inject_count, assigned, assign}
 use Rattle.board_step.specs.Ticks.{tick_or_hold, tick}
-use Rattle.board_calls.specs.Pieces.{removed, removing, falling}
+use Rattle.board_calls.specs.Pieces.{removed, removing, added, adding, falling}
 
 -- ---- an irqfd ends
 
@@ -32,6 +36,20 @@ deassign_steps routing trigger gsi = λ i. look Registry (λ v. at v (named_row 
     at : (v : RegistryPart) (row : Option Irqfd) → (removed v trigger gsi row >>= after_removal routing gsi) ≡ deassigned routing v trigger gsi row
     at v None = refl
     at v (Some row) = refl
+
+-- ---- an irqfd is made
+
+-- after the row was added or refused
+abbrev pub after_addition : Routing → Shape → ℕ → Option ℕ → Result Bool Refusal → Plan (Unit {0})
+after_addition routing shape gsi resample (Err refusal) = reply (Refused refusal)
+after_addition routing shape gsi resample (Ok found) = inject_count routing shape gsi resample found >> reply Done
+
+pub assign_steps : (routing : Routing) (shape : Shape) (trigger gsi : ℕ) (resample : Option ℕ) → (adding trigger gsi resample >>= after_addition routing shape gsi resample) ≡ assign routing shape trigger gsi resample
+assign_steps routing shape trigger gsi resample = λ i. look Registry (λ v. look Counters (λ counts. at v counts (first_of (assign_reasons v trigger resample)) i))
+  where
+    at : (v : RegistryPart) (counts : List ℕ) (r : Option Refusal) → (added v counts trigger gsi resample r >>= after_addition routing shape gsi resample) ≡ unless_refused r (assigned routing shape v counts trigger gsi resample)
+    at v counts None = refl
+    at v counts (Some refusal) = refl
 
 -- ---- a tick falls
 

@@ -1,3 +1,5 @@
 pub mod Done
 pub mod Moved
 pub mod Pieces
+pub mod Families
+pub mod Told

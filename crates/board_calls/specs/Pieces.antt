@@ -1,12 +1,13 @@
 -- The first steps of calls that signal after them, each as a plan that ends with what the rest needs.
-use Rattle.std.specs.Prelude.{ℕ, Bool, nat_lt, if◌then◌else◌, List, slice_index, Result, Ok, Err, Some, None, option_map}
+use Rattle.std.specs.Prelude.{ℕ, Bool, false, ◌||◌, nat_eq, nat_lt, if◌then◌else◌, List, slice_index, Result, Ok, Err, Some, None, option_map}
+use Rattle.std.specs.List.{list_any}
 use Rattle.std.specs.declared.option.Option.{Option}
 use Rattle.irq_base.specs.Refusals.{first_of}
 use Rattle.irq_base.specs.declared.refusal.Refusal.{Refusal}
 use Rattle.irq_base.specs.declared.shape.Part.TheVariants.{Registry, Counters, Tick}
 use Rattle.event_counter.specs.Counters.{taken}
 use Rattle.irqfd_set.specs.declared.irqfds.Irqfd.{Irqfd}
-use Rattle.irqfd_set.specs.Rows.{named_row, with_row, without_row}
+use Rattle.irqfd_set.specs.Rows.{has_trigger, named_row, with_row, without_row}
 use Rattle.tick_reinject.specs.Ticks.{tick_injects, ticked}
 use Rattle.board_model.specs.Registry.{RegistryPart}
 use Rattle.board_model.specs.Plan.{Plan, done, see, set as put_part, ◌>>=◌, ◌>>◌}
@@ -33,6 +34,11 @@ removing trigger gsi = do
   removed registry trigger gsi (named_row registry.irqfds trigger gsi)
 
 -- ---- an irqfd is made
+
+-- whether a resample counter, if there is one, is this trigger or that of a living irqfd
+abbrev pub clashes : List Irqfd → ℕ → Option ℕ → Bool
+clashes rows trigger None = false
+clashes rows trigger (Some counter) = nat_eq counter trigger || list_any (has_trigger counter) rows
 
 -- the row is there unless it is refused, the count of its trigger is 0, and the value tells whether it was above 0
 abbrev pub added : RegistryPart → List ℕ → ℕ → ℕ → Option ℕ → Option Refusal → Plan (Result Bool Refusal)

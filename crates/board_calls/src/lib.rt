@@ -1,11 +1,13 @@
-//! The calls of devices and of the monitor on the parts of a board that are in hand: what each does there is what its plan
-//! does.
+//! The calls of devices, registrations and ticks on the parts of a board that a rig holds: each does there what its plan does.
 //!
-//! The plans stand in `Registrations`, `Ticks` and `Calls` of board_step, the reasons of refusals in its `Refusals`. Here is
-//! what a call in code is to its plan: `Done` (reply, events, parts and wishes are the plan's, or what is lacking is).
+//! The plans stand in `Registrations`, `Ticks` and `Calls` of board_step, the reasons of refusals in its `Refusals`. Reading order
+//! of the definitions here: `Families` (which call has which function), `Done` (what a call in code is to its plan: reply, parts
+//! and wishes are the plan's, or what is lacking is), `Told` (events past their room), `Moved` (holds of pins whose GSI moves),
+//! `Pieces` (the first steps of calls that signal after them).
 #![tactic(auto)]
 
 mod counters;
+mod families;
 mod irqfds;
 mod range;
 mod registrations;
@@ -13,4 +15,5 @@ mod reroute;
 mod signals;
 mod ticks;
 
+pub use families::{device_call, registration, tick_call};
 pub use range::refused_by_range;

@@ -19,10 +19,11 @@ use irq_base::{Part, Refusal, Reply};
 use irqfd_set::Irqfds;
 
 /// Whether the counter is the trigger of a living irqfd.
+#[tactic(auto, using(crate::proofs::Rows::trigger_rules))]
 pub fn is_trigger(irqfds: &Irqfds, counter: u16) -> bool
     ensures { result ≡ list_any (has_trigger counter) irqfds.now }
 {
-    irqfds.rows().iter().any(|row| row.trigger == counter)
+    irqfds.of_trigger(counter).is_some()
 }
 
 /// Makes an ioeventfd: `Done`, or `Exists` where it collides with one, or `Full` where 256 are there.

@@ -1,5 +1,5 @@
 //! Lines, messages and triggers signal.
-ghost use Rattle.std.specs.Prelude.{◌≡◌, ◌<◌, ◌/◌, ◌^◌, true, false};
+ghost use Rattle.std.specs.Prelude.{◌≡◌, ◌<◌, ◌-◌, ◌/◌, ◌^◌, true, false};
 ghost use Rattle.irq_base.specs.declared.message.Source.TheVariants.{Line};
 ghost use Rattle.irq_base.specs.declared.shape.Shape.{Shape as Sizes};
 ghost use Rattle.msi_decode.specs.Messages.{message_in};
@@ -8,9 +8,10 @@ ghost use Rattle.board_model.specs.Published.{routing_of_words};
 ghost use Rattle.board_raise.specs.Fit.{PinsFit};
 ghost use Rattle.board_raise.specs.InHand.{chips_of};
 ghost use Rattle.board_raise.specs.Signal.{lower};
-ghost use Rattle.board_step.specs.Registrations.{line_set, message_sent, source_of, trigger_written};
+ghost use Rattle.board_step.specs.Registrations.{line_set, message_sent, source_of, trigger_written, write};
 ghost use Rattle.board_calls.specs.Done.{Replies, SameInHand, FitsShape};
 
+use crate::counters::add;
 use board_raise::{Lacks, Rig, TriggerWord, inject, lower_gsi, raise_gsi, send};
 use irq_base::{Message, Reply, Shape, Source};
 use msi_decode::decode;
@@ -83,6 +84,26 @@ fn message_of(address: u64, payload: u32) -> Message
     match decode(address, payload) {
         Ok(message) => message,
         Err(_) => unreachable!(),
+    }
+}
+
+/// A count is added to a counter (eventfd(2), write). The trigger of an irqfd keeps the count 0 and injects once: `Signal` with
+/// the status, and `Done` for the count 0. For another counter it is `Done`, or `Over` where the count would pass 2^64 - 2.
+pub fn write<R: Rig>(rig: &mut R, shape: &Shape, counter: u16, n: u64) -> Result<Reply, Lacks>
+    requires counter { counter < shape.now.counters }
+    requires count { n < 2 ^ 64 - 1 }
+    requires fits { FitsShape shape.now (R.held rig.old) }
+    ensures does { let routing = routing_of_words (R.published rig.old) in R.astray rig.new ≡ false → Replies (write routing shape.now (routing.trigger counter) counter n) (R.held rig.old) (R.wishes rig.old) result (R.held rig.new) (R.wishes rig.new) }
+    ensures held { SameInHand (R.held rig.old) (R.held rig.new) }
+    ensures fits { FitsShape shape.now (R.held rig.new) }
+    ensures published { R.published rig.new ≡ R.published rig.old }
+    ensures strays { R.astray rig.new ≡ false → R.astray rig.old ≡ false }
+    ensures noted { R.noted rig.new ≡ R.noted rig.old }
+{
+    match rig.trigger(counter) {
+        None => add(rig.parts(), counter, n),
+        Some(_) if n == 0 => Ok(Reply::Done),
+        Some(trigger) => write_trigger(rig, shape, trigger),
     }
 }
 

@@ -1,11 +1,9 @@
-use Rattle.std.proofs.Common.{◌≡◌, Bool, true, false, List, ℕ, Ok, Err, Some, None, refl, sym, ap, subst, ◌∙◌, [], ◌∷◌}
-use Rattle.std.specs.Prelude.{Result}
+use Rattle.std.proofs.Common.{Bool, true, false, List, ℕ, Ok, Err, Some, None, ap, subst, ◌∙◌, [], ◌∷◌}
 use Rattle.std.specs.declared.option.Option.{Option}
 use Rattle.irq_base.specs.declared.reply.Reply.TheVariants.{Removed}
 use Rattle.board_model.specs.Plan.{reply}
 use Rattle.board_model.specs.Published.{routing_of_words}
 use Rattle.board_model.specs.Run.{run_on}
-use Rattle.board_raise.specs.declared.lacks.Lacks.{Lacks}
 use Rattle.board_raise.specs.InHand.{parts_of}
 use Rattle.board_raise.specs.Shown.{EndsWith, StopsAt}
 use Rattle.board_raise.proofs.Composing.{then_ends, stops_first}

@@ -1,10 +1,10 @@
-use Rattle.std.proofs.Common.{◌≡◌, false, sym, ap, subst, ◌∙◌}
+use Rattle.std.proofs.Common.{sym, ap, subst, ◌∙◌}
 use Rattle.source_levels.specs.Holds.{Holds}
 use Rattle.board_raise.specs.declared.parts.IoPart as code
 use Rattle.board_raise.specs.Fit.{IoapicFits}
 use Rattle.board_raise.specs.InHand.{ioapic_of}
 use Rattle.board_calls.specs.Moved.{without_pin}
-use Rattle.board_calls.proofs.Holding.{same_at, kept_up_to, kept_at_first, kept_at_last, keeps_pin, drops_pin}
+use Rattle.board_calls.proofs.Holding.{kept_at_first, keeps_pin, drops_pin}
 use Rattle.board_calls.proofs.reroute.forget_moved_ioapics.Goals as goal
 use Rattle.board_calls.proofs.reroute.forget_moved_ioapics.Goals.{then-not-is_same_gsi, else-not-is_same_gsi}
 

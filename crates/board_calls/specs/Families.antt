@@ -1,0 +1,34 @@
+-- The families of calls that have one function each.
+use Rattle.std.specs.Prelude.{Bool, true, false}
+use Rattle.irq_base.specs.declared.call.Call.{Call}
+use Rattle.irq_base.specs.declared.call.Call.TheVariants.{Line, Msi, Write, Take, Assign, Deassign, Reroute, Attach, Detach, Watch, Unwatch, Tick, TickMode}
+
+-- lines, messages and counters
+abbrev pub is_of_device : Call → Bool
+is_of_device (Line gsi line high) = true
+is_of_device (Msi address payload) = true
+is_of_device (Write counter n) = true
+is_of_device (Take counter) = true
+is_of_device _ = false
+
+-- irqfds, the routing table, ioeventfds and acknowledge notifiers
+abbrev pub is_registration : Call → Bool
+is_registration (Assign trigger gsi resample) = true
+is_registration (Deassign trigger gsi) = true
+is_registration (Reroute rows) = true
+is_registration (Attach space address len counter want) = true
+is_registration (Detach space address len counter want) = true
+is_registration (Watch counter gsi) = true
+is_registration (Unwatch counter gsi) = true
+is_registration _ = false
+
+-- those that tell no event: all but that of an irqfd which is made
+abbrev pub is_quiet_registration : Call → Bool
+is_quiet_registration (Assign trigger gsi resample) = false
+is_quiet_registration call = is_registration call
+
+-- ticks and their mode
+abbrev pub is_of_ticks : Call → Bool
+is_of_ticks Tick = true
+is_of_ticks (TickMode reinject) = true
+is_of_ticks _ = false
