@@ -1,3 +1,4 @@
 pub mod Indices
 pub mod Drafting
 pub mod Laws
+pub mod Lists

@@ -4,17 +4,20 @@
 //! it is of concern to anybody, what each trigger injects, and which GSI each pin has. `targets_word`, `trigger_word` and
 //! `pin_word` read one word in one load, from the bank of the pen's last look, and the pen notes it under that look's
 //! generation: wherever that is the front's, the word is the published one. `publish` writes all words of a registry to
-//! come to the spare bank; the entry that is committed next as a publication makes them the published ones.
+//! come to the spare bank; the entry that is committed next as a publication makes them the published ones. `words_of` gives
+//! the words of a registry as a list, with which a book begins.
 //!
 //! The words' formats stand in `board_model` and `route_table`: `route_table::decode` tells what the word of a GSI says.
 #![tactic(auto)]
 
 mod drafting;
 mod laws;
+mod listing;
 mod marks;
 mod publishing;
 mod reading;
 
 pub use laws::words_stand_at_indices;
+pub use listing::words_of;
 pub use publishing::publish;
 pub use reading::{pin_word, targets_word, trigger_word};

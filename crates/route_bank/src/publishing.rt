@@ -21,7 +21,7 @@ use route_table::Table;
 use turn_book::{Machine, Pen, TurnBook};
 
 // The word of a trigger with this irqfd, or with none.
-fn trigger_word(row: Option<Irqfd>) -> u64
+pub(crate) fn trigger_word(row: Option<Irqfd>) -> u64
     ensures { result ≡ trigger_word (option_map trigger_of row) }
 {
     match row {
@@ -34,7 +34,7 @@ fn trigger_word(row: Option<Irqfd>) -> u64
 }
 
 // The word of a pin that has this GSI, or none.
-fn pin_word(gsi: Option<u16>) -> u64
+pub(crate) fn pin_word(gsi: Option<u16>) -> u64
     ensures { result ≡ pin_word gsi }
 {
     match gsi {
