@@ -10,7 +10,7 @@ use Rattle.irq_base.specs.declared.message.Source.TheVariants.{Resample, Tick}
 use Rattle.irq_base.specs.declared.message.Targets.{Targets}
 use Rattle.irq_base.specs.declared.shape.Part.TheVariants as parts
 use Rattle.irq_base.specs.declared.shape.Shape.{Shape}
-use Rattle.ioapic_82093aa.specs.Pins.{entry_at, acknowledged, resend_of}
+use Rattle.ioapic_82093aa.specs.Pins.{entry_at, pin_acked, resend_of}
 use Rattle.irqfd_set.specs.Rows.{has_resampler}
 use Rattle.resampler.specs.Resample.{resampled, resample_events}
 use Rattle.ack_notifiers.specs.Rows.{watched, watch_events}
@@ -93,7 +93,7 @@ module _ (w : Manner) where
     level_keeps : (cpus : ℕ) (pin : Pin) → Keeps w (end_level cpus pin)
     level_keeps cpus (pins.Pic pin) = tt
     level_keeps cpus (pins.Ioapic pin) = λ part. elim ((entry_at (ioapic_of part) pin).level) as (λ t. Keeps w (if t then clear_and_resend cpus pin part else done tt)) [
-      | true ↦ (refl, resend_keeps cpus pin (resend_of (acknowledged (ioapic_of part) pin) pin))
+      | true ↦ (refl, resend_keeps cpus pin (resend_of (pin_acked (ioapic_of part) pin) pin))
       | false ↦ tt
     ]
 

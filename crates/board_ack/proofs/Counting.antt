@@ -10,7 +10,7 @@ use Rattle.irq_base.specs.declared.message.Source.TheVariants.{Resample, Tick}
 use Rattle.irq_base.specs.declared.message.Targets.{Targets}
 use Rattle.irq_base.specs.declared.shape.Part.TheVariants as parts
 use Rattle.irq_base.specs.declared.shape.Shape.{Shape}
-use Rattle.ioapic_82093aa.specs.Pins.{entry_at, acknowledged, resend_of}
+use Rattle.ioapic_82093aa.specs.Pins.{entry_at, pin_acked, resend_of}
 use Rattle.irq_base.specs.Counts.{signalled_all}
 use Rattle.irqfd_set.specs.Rows.{has_resampler}
 use Rattle.resampler.specs.Resample.{resampled, resample_events}
@@ -103,8 +103,8 @@ module _ (Kind : Board → Type 0) (kind : IsKind Kind) where
       by_part : (part : IoapicPart) → Tells Kind 1 0 (if (entry_at (ioapic_of part) pin).level then clear_and_resend cpus pin part else done tt)
       by_part part = elim ((entry_at (ioapic_of part) pin).level) as (λ t. Tells Kind 1 0 (if t then clear_and_resend cpus pin part else done tt)) [
         | true ↦ λ b ws h.
-            let after = with_ioapic part (acknowledged (ioapic_of part) pin) in
-            resend_tells cpus pin (resend_of (acknowledged (ioapic_of part) pin) pin) (with_part b parts.Ioapic after) ws (kind b parts.Ioapic after refl h)
+            let after = with_ioapic part (pin_acked (ioapic_of part) pin) in
+            resend_tells cpus pin (resend_of (pin_acked (ioapic_of part) pin) pin) (with_part b parts.Ioapic after) ws (kind b parts.Ioapic after refl h)
         | false ↦ tells_more Kind 0 1 0 0 (done tt) (omega arith) refl (done_tells Kind tt)
       ]
 

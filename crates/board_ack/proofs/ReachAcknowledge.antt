@@ -9,7 +9,7 @@ use Rattle.irq_base.specs.declared.message.Source.TheVariants as sources
 use Rattle.irq_base.specs.declared.shape.Part.{Part}
 use Rattle.irq_base.specs.declared.shape.Part.TheVariants.{Registry, Counters, Tick, Pic, Ioapic, Lapic}
 use Rattle.irq_base.specs.declared.shape.Shape.{Shape}
-use Rattle.ioapic_82093aa.specs.Pins.{entry_at, acknowledged, resend_of, raise_of}
+use Rattle.ioapic_82093aa.specs.Pins.{entry_at, pin_acked, resend_of, raise_of}
 use Rattle.tick_reinject.specs.Ticks.{tick_acked, tick_injected, ack_injects}
 use Rattle.board_model.specs.Board.{Board, with_part, is_same}
 use Rattle.board_model.specs.Chips.{ioapic_of}
@@ -54,7 +54,7 @@ module _ (routing : Routing) (shape : Shape) where
 
   level_same : (b c : Board) (pin : Pin) (q : Part) → Alike b c → table.of_level routing shape b pin q ≡ table.of_level routing shape c pin q
   level_same b c (pins.Pic pin) q h = refl
-  level_same b c (pins.Ioapic pin) q h = ap (λ part. is_same Ioapic q || ((entry_at (ioapic_of part) pin).level && table.of_resend routing shape (resend_of (acknowledged (ioapic_of part) pin) pin) q)) h.ioapic
+  level_same b c (pins.Ioapic pin) q h = ap (λ part. is_same Ioapic q || ((entry_at (ioapic_of part) pin).level && table.of_resend routing shape (resend_of (pin_acked (ioapic_of part) pin) pin) q)) h.ioapic
 
   tick_same : (b c : Board) (gsi : Option ℕ) (q : Part) → Alike b c → table.of_tick routing shape b gsi q ≡ table.of_tick routing shape c gsi q
   tick_same b c None q h = refl
@@ -85,8 +85,8 @@ module _ (routing : Routing) (shape : Shape) where
 
     level_reach : (pin : Pin) (b : Board) (ws : Wishes) → reaches (end_level shape.cpus pin) b ws q ≡ table.of_level routing shape b pin q
     level_reach (pins.Pic pin) b ws = refl
-    level_reach (pins.Ioapic pin) b ws = elim (entry_at (ioapic_of b.ioapic) pin).level as (λ t. (is_same Ioapic q || reaches (if t then clear_and_resend shape.cpus pin b.ioapic else done tt) b ws q) ≡ (is_same Ioapic q || (t && table.of_resend routing shape (resend_of (acknowledged (ioapic_of b.ioapic) pin) pin) q))) [
-      | true ↦ twice (is_same Ioapic q) _ ∙ resend_reach pin (resend_of (acknowledged (ioapic_of b.ioapic) pin) pin) _ ws
+    level_reach (pins.Ioapic pin) b ws = elim (entry_at (ioapic_of b.ioapic) pin).level as (λ t. (is_same Ioapic q || reaches (if t then clear_and_resend shape.cpus pin b.ioapic else done tt) b ws q) ≡ (is_same Ioapic q || (t && table.of_resend routing shape (resend_of (pin_acked (ioapic_of b.ioapic) pin) pin) q))) [
+      | true ↦ twice (is_same Ioapic q) _ ∙ resend_reach pin (resend_of (pin_acked (ioapic_of b.ioapic) pin) pin) _ ws
       | false ↦ refl
     ]
 

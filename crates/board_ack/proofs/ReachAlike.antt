@@ -11,7 +11,7 @@ use Rattle.irq_base.specs.declared.message.Targets.{Targets}
 use Rattle.irq_base.specs.declared.shape.Part.{Part}
 use Rattle.irq_base.specs.declared.shape.Part.TheVariants.{Counters, Tick, Ioapic, Lapic}
 use Rattle.irq_base.specs.declared.shape.Shape.{Shape}
-use Rattle.ioapic_82093aa.specs.Pins.{entry_at, acknowledged, resend_of}
+use Rattle.ioapic_82093aa.specs.Pins.{entry_at, pin_acked, resend_of}
 use Rattle.irqfd_set.specs.Rows.{has_resampler}
 use Rattle.ack_notifiers.specs.Rows.{watched, watch_events}
 use Rattle.irq_base.specs.Counts.{signalled_all}
@@ -89,7 +89,7 @@ module _ (routing : Routing) (shape : Shape) where
 
       by_test : (part : IoapicPart) → RunAlike Whatever (f part) (f part)
       by_test part = elim (entry_at (ioapic_of part) pin).level as (λ t. RunAlike Whatever (if t then clear_and_resend cpus pin part else done tt) (if t then clear_and_resend cpus pin part else done tt)) [
-        | true ↦ λ b c ws vs h. resend_alike cpus pin (resend_of (acknowledged (ioapic_of part) pin) pin) _ _ ws vs (alike_ioapic h _ _ refl)
+        | true ↦ λ b c ws vs h. resend_alike cpus pin (resend_of (pin_acked (ioapic_of part) pin) pin) _ _ ws vs (alike_ioapic h _ _ refl)
         | false ↦ done_alike tt tt
       ]
 

@@ -18,7 +18,7 @@ use Rattle.irq_base.specs.Room.{with_told}
 use Rattle.irqfd_set.specs.Rows.{has_resampler}
 use Rattle.resampler.specs.Resample.{resampled, resample_events}
 use Rattle.ioapic_82093aa.specs.declared.ioapic.Ioapic.{Ioapic as Chip}
-use Rattle.ioapic_82093aa.specs.Pins.{entry_at, acknowledged, resend_of}
+use Rattle.ioapic_82093aa.specs.Pins.{entry_at, pin_acked, resend_of}
 use Rattle.tick_reinject.specs.Ticks.{is_ignored, tick_injected}
 use Rattle.board_model.specs.Board.{Board, ValueOf}
 use Rattle.board_model.specs.Registry.{RegistryPart}
@@ -130,7 +130,7 @@ pub pins_with : (p : code.Parts) (part : io.IoPart) → PinsFit (chips_of p) →
 pins_with p part fits fit = record { pic = fits.pic; ioapic = fit }
 
 -- what is sent again, by the chip as it is after the acknowledge
-pub sent_by : (pin : ℕ) (part : chips.IoapicPart) (after : io.IoPart) → ioapic_of after ≡ with_ioapic part (acknowledged (chips.ioapic_of part) pin) → IoapicFits after.ioapic after.levels → resend_of after.ioapic pin ≡ resend_of (acknowledged (chips.ioapic_of part) pin) pin
+pub sent_by : (pin : ℕ) (part : chips.IoapicPart) (after : io.IoPart) → ioapic_of after ≡ with_ioapic part (pin_acked (chips.ioapic_of part) pin) → IoapicFits after.ioapic after.levels → resend_of after.ioapic pin ≡ resend_of (pin_acked (chips.ioapic_of part) pin) pin
 sent_by pin part after is fits = ap (λ c. resend_of c pin) (chip_is after fits ∙ ap chips.ioapic_of is)
 
 module _ (pin : ℕ) (p : code.Parts) (part after : io.IoPart) (there : p.ioapic ≡ Some part) (message : Option Message) (ws : Wishes) where
@@ -149,11 +149,11 @@ module _ (pin : ℕ) (p : code.Parts) (part after : io.IoPart) (there : p.ioapic
   pub entry_ends : ioapic_of after ≡ entry_ended was pin → message ≡ sent_again was pin → EndsWith message [] [] left ws (run_on (end_entry pin) (parts_of p) ws)
   entry_ends is tells = subst (EndsWith message [] [] left ws) (sym (looked Ioapic ended (parts_of p) ws was held)) (by ((entry_at (chips.ioapic_of was) pin).level) is tells)
     where
-      by : (t : Bool) → ioapic_of after ≡ (if t then with_ioapic was (acknowledged (chips.ioapic_of was) pin) else was) → message ≡ (if t then resend_of (acknowledged (chips.ioapic_of was) pin) pin else None)
+      by : (t : Bool) → ioapic_of after ≡ (if t then with_ioapic was (pin_acked (chips.ioapic_of was) pin) else was) → message ≡ (if t then resend_of (pin_acked (chips.ioapic_of was) pin) pin else None)
           → EndsWith message [] [] left ws (run_on (if t then clear_entry pin was else done None) (parts_of p) ws)
       by true is tells =
           subst (EndsWith message [] [] left ws)
-          (sym (wrote Ioapic (with_ioapic was (acknowledged (chips.ioapic_of was) pin)) (done (resend_of (acknowledged (chips.ioapic_of was) pin) pin)) (parts_of p) ws was held))
+          (sym (wrote Ioapic (with_ioapic was (pin_acked (chips.ioapic_of was) pin)) (done (resend_of (pin_acked (chips.ioapic_of was) pin) pin)) (parts_of p) ws was held))
           (record { value_is = tells; events_are = refl; replies_are = refl; parts = ap (λ (x : chips.IoapicPart). record (parts_of p) { ioapic = Some x }) is; wishes = refl })
       by false is tells = record {
         value_is = tells;

@@ -11,7 +11,7 @@ use Rattle.irq_base.specs.declared.message.Source.TheVariants.{Resample}
 use Rattle.irq_base.specs.declared.message.Targets.{Targets}
 use Rattle.irq_base.specs.declared.shape.Part.TheVariants.{Registry, Counters, Tick, Pic, Ioapic}
 use Rattle.irq_base.specs.declared.shape.Shape.{Shape}
-use Rattle.ioapic_82093aa.specs.Pins.{entry_at, acknowledged, resend_of}
+use Rattle.ioapic_82093aa.specs.Pins.{entry_at, pin_acked, resend_of}
 use Rattle.irq_base.specs.Counts.{signalled_all}
 use Rattle.irqfd_set.specs.Rows.{has_resampler}
 use Rattle.resampler.specs.Resample.{resampled, resample_events}
@@ -90,8 +90,8 @@ resend cpus pin (Some message) = do
 -- remote IRR is cleared, and the pin is sent again where it is still high and unmasked
 abbrev pub clear_and_resend : ℕ → ℕ → IoapicPart → Plan (Unit {0})
 clear_and_resend cpus pin part = do
-  put_part Ioapic (with_ioapic part (acknowledged (ioapic_of part) pin))
-  resend cpus pin (resend_of (acknowledged (ioapic_of part) pin) pin)
+  put_part Ioapic (with_ioapic part (pin_acked (ioapic_of part) pin))
+  resend cpus pin (resend_of (pin_acked (ioapic_of part) pin) pin)
 
 -- step 4: of a pin of the I/O APIC whose entry is level-triggered
 abbrev pub end_level : ℕ → Pin → Plan (Unit {0})

@@ -7,7 +7,7 @@ use Rattle.irq_base.specs.declared.shape.Part.{Part}
 use Rattle.irq_base.specs.declared.shape.Part.TheVariants.{Registry, Counters, Tick, Pic, Ioapic}
 use Rattle.irq_base.specs.declared.status.Status.{Status}
 use Rattle.irq_base.specs.Room.{with_told}
-use Rattle.ioapic_82093aa.specs.Pins.{entry_at, acknowledged, resend_of}
+use Rattle.ioapic_82093aa.specs.Pins.{entry_at, pin_acked, resend_of}
 use Rattle.board_model.specs.Registry.{RegistryPart}
 use Rattle.board_model.specs.Chips.{IoapicPart, ioapic_of, with_ioapic}
 use Rattle.board_model.specs.Hand.{Parts, part_in}
@@ -70,8 +70,8 @@ AreRegistered q = (registry : RegistryPart) (counts : List ℕ) → q.registry �
 -- remote IRR is cleared, and the value is the message that is to be sent again
 abbrev pub clear_entry : ℕ → IoapicPart → Plan (Option Message)
 clear_entry pin part = do
-  put_part Ioapic (with_ioapic part (acknowledged (ioapic_of part) pin))
-  done (resend_of (acknowledged (ioapic_of part) pin) pin)
+  put_part Ioapic (with_ioapic part (pin_acked (ioapic_of part) pin))
+  done (resend_of (pin_acked (ioapic_of part) pin) pin)
 
 -- the same of a level-triggered entry; of an edge-triggered one nothing is sent again
 abbrev pub end_entry : ℕ → Plan (Option Message)
@@ -81,10 +81,10 @@ end_entry pin = do
 
 -- the I/O APIC after that, and the message that is to be sent again
 abbrev pub entry_ended : IoapicPart → ℕ → IoapicPart
-entry_ended part pin = if (entry_at (ioapic_of part) pin).level then with_ioapic part (acknowledged (ioapic_of part) pin) else part
+entry_ended part pin = if (entry_at (ioapic_of part) pin).level then with_ioapic part (pin_acked (ioapic_of part) pin) else part
 
 abbrev pub sent_again : IoapicPart → ℕ → Option Message
-sent_again part pin = if (entry_at (ioapic_of part) pin).level then resend_of (acknowledged (ioapic_of part) pin) pin else None
+sent_again part pin = if (entry_at (ioapic_of part) pin).level then resend_of (pin_acked (ioapic_of part) pin) pin else None
 
 -- ---- what is changed
 

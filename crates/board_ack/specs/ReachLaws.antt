@@ -7,7 +7,7 @@ use Rattle.irq_base.specs.declared.message.Message.{Message}
 use Rattle.irq_base.specs.declared.shape.Part.{Part}
 use Rattle.irq_base.specs.declared.shape.Part.TheVariants.{Tick, Ioapic, Lapic}
 use Rattle.irq_base.specs.declared.shape.Shape.{Shape}
-use Rattle.ioapic_82093aa.specs.Pins.{entry_at, acknowledged, resend_of}
+use Rattle.ioapic_82093aa.specs.Pins.{entry_at, pin_acked, resend_of}
 use Rattle.tick_reinject.specs.Ticks.{ack_injects}
 use Rattle.board_model.specs.Board.{Board, is_same}
 use Rattle.board_model.specs.Chips.{ioapic_of}
@@ -49,7 +49,7 @@ module _ (routing : Routing) (shape : Shape) where
   abbrev pub of_level : Board → Pin → Part → Bool
   of_level b (pins.Pic pin) q = false
   of_level b (pins.Ioapic pin) q =
-      is_same Ioapic q || ((entry_at (ioapic_of b.ioapic) pin).level && of_resend (resend_of (acknowledged (ioapic_of b.ioapic) pin) pin) q)
+      is_same Ioapic q || ((entry_at (ioapic_of b.ioapic) pin).level && of_resend (resend_of (pin_acked (ioapic_of b.ioapic) pin) pin) q)
 
   -- the tick, where the GSI is its own, and what the next tick reaches where it is injected
   abbrev pub of_tick : Board → Option ℕ → Part → Bool

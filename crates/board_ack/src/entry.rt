@@ -62,8 +62,10 @@ fn end_ioapic<R: Rig>(rig: &mut R, cpus: u16, pin: u8, events: &mut Events) -> R
     }
 }
 
-// The message of the pin is sent again, and the event tells it.
-fn resend<R: Rig>(
+/// The message of a pin of the I/O APIC, of 0 to 23, is sent again, and the event `Resent` tells it with its status.
+///
+/// There is room for 640 events; what finds none is left out. `Lacks` names the first part that is not in hand.
+pub fn resend<R: Rig>(
     rig: &mut R,
     cpus: u16,
     pin: u8,

@@ -13,7 +13,7 @@ mod ticks;
 ghost use Rattle.board_ack.specs.ReachLaws.{AcknowledgesReachTheSame};
 
 pub use concerned::concern;
-pub use entry::end_level;
+pub use entry::{end_level, resend};
 pub use on_rig::ack_pin;
 pub use ticks::{end_tick, inject_tick};
 

@@ -12,7 +12,7 @@ use Rattle.irq_base.specs.declared.shape.Part.{Part}
 use Rattle.irq_base.specs.declared.shape.Part.TheVariants as parts
 use Rattle.irq_base.specs.declared.shape.Shape.{Shape}
 use Rattle.irq_base.specs.declared.status.Status.{Status}
-use Rattle.ioapic_82093aa.specs.Pins.{entry_at, acknowledged, resend_of}
+use Rattle.ioapic_82093aa.specs.Pins.{entry_at, pin_acked, resend_of}
 use Rattle.irqfd_set.specs.Rows.{has_resampler}
 use Rattle.resampler.specs.Resample.{resampled, resample_events}
 use Rattle.ack_notifiers.specs.Rows.{watched, watch_events}

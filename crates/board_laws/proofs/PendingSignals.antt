@@ -15,7 +15,7 @@ use Rattle.irq_base.specs.declared.shape.Shape.{Shape}
 use Rattle.pic_8259a.specs.Pair.{pin_outcome}
 use Rattle.ioapic_82093aa.specs.declared.ioapic.Raise.{Raise}
 use Rattle.ioapic_82093aa.specs.declared.ioapic.Raise.TheVariants as raises
-use Rattle.ioapic_82093aa.specs.Pins.{raise_of, pin_accepted, entry_at, acknowledged, resend_of}
+use Rattle.ioapic_82093aa.specs.Pins.{raise_of, pin_accepted, entry_at, pin_acked, resend_of}
 use Rattle.msi_decode.specs.Messages.{message_in}
 use Rattle.irq_base.specs.Counts.{signalled_all}
 use Rattle.resampler.specs.Resample.{resampled, resample_events}
@@ -115,7 +115,7 @@ module _ (cpus : ℕ) where
   resend_safe pin (Some message) = safe_bind cpus (λ answer. accept_pin pin (is_accepted message answer)) (send cpus message None (resent pin)) (send_safe cpus message None (resent pin)) (λ answer. accept_pin_safe pin (is_accepted message answer))
 
   clear_safe : (pin : ℕ) (part : IoapicPart) → Safe cpus (clear_and_resend cpus pin part)
-  clear_safe pin part = safe_put cpus parts.Ioapic (with_ioapic part (acknowledged (ioapic_of part) pin)) (resend cpus pin (resend_of (acknowledged (ioapic_of part) pin) pin)) refl (resend_safe pin (resend_of (acknowledged (ioapic_of part) pin) pin))
+  clear_safe pin part = safe_put cpus parts.Ioapic (with_ioapic part (pin_acked (ioapic_of part) pin)) (resend cpus pin (resend_of (pin_acked (ioapic_of part) pin) pin)) refl (resend_safe pin (resend_of (pin_acked (ioapic_of part) pin) pin))
 
   end_level_safe : (pin : Pin) → Safe cpus (end_level cpus pin)
   end_level_safe (pins.Pic pin) = safe_end cpus

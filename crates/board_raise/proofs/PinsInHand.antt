@@ -7,7 +7,7 @@ use Rattle.pic_8259a.specs.declared.chip.PinOutcome.{PinOutcome}
 use Rattle.pic_8259a.specs.Pair.{pin_set, pin_outcome}
 use Rattle.ioapic_82093aa.specs.declared.ioapic.Ioapic.{Ioapic}
 use Rattle.ioapic_82093aa.specs.declared.ioapic.Raise.{Raise}
-use Rattle.ioapic_82093aa.specs.Pins.{raised, lowered, raise_of, pin_accepted, acknowledged}
+use Rattle.ioapic_82093aa.specs.Pins.{raised, lowered, raise_of, pin_accepted, pin_acked}
 use Rattle.source_levels.specs.Holds.{Holds, hold, is_high}
 use Rattle.board_model.specs.Chips as chips
 use Rattle.board_model.specs.Chips.{chip_of, without_pins, master_high, slave_high, pair_of, ioapic_high, with_ioapic}
@@ -75,5 +75,5 @@ module _ (p : io.IoPart) (fits : IoapicFits p.ioapic p.levels) where
     pub ioapic_accepts : (chip : Ioapic) → chip ≡ pin_accepted p.ioapic pin → chip ≡ chips.ioapic_of (with_ioapic (ioapic_of p) (pin_accepted (chips.ioapic_of (ioapic_of p)) pin))
     ioapic_accepts chip e = e ∙ ap (λ c. pin_accepted c pin) chip_is
 
-    pub ioapic_ends : (chip : Ioapic) → chip ≡ acknowledged p.ioapic pin → chip ≡ chips.ioapic_of (with_ioapic (ioapic_of p) (acknowledged (chips.ioapic_of (ioapic_of p)) pin))
-    ioapic_ends chip e = e ∙ ap (λ c. acknowledged c pin) chip_is
+    pub ioapic_ends : (chip : Ioapic) → chip ≡ pin_acked p.ioapic pin → chip ≡ chips.ioapic_of (with_ioapic (ioapic_of p) (pin_acked (chips.ioapic_of (ioapic_of p)) pin))
+    ioapic_ends chip e = e ∙ ap (λ c. pin_acked c pin) chip_is

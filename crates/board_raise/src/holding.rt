@@ -1,7 +1,7 @@
 //! Sources hold the pins of the chips in hand, and let them go.
 ghost use Rattle.std.specs.Prelude.{◌≡◌, ◌<◌, true, option_map, IsTrue};
 ghost use Rattle.pic_8259a.specs.Pair.{pin_outcome};
-ghost use Rattle.ioapic_82093aa.specs.Pins.{raise_of, pin_accepted, acknowledged};
+ghost use Rattle.ioapic_82093aa.specs.Pins.{raise_of, pin_accepted, pin_acked};
 ghost use Rattle.source_levels.specs.Holds.{IsSource};
 ghost use Rattle.route_table.specs.Words.{is_below};
 ghost use Rattle.board_model.specs.Chips.{pair_of, ioapic_of as chip_of, with_ioapic};
@@ -88,7 +88,7 @@ impl IoPart {
     pub fn acked(&mut self, pin: u8)
         requires pin { pin < 24 }
         requires fits { IoapicFits self.old.ioapic self.old.levels }
-        ensures after { ioapic_of self.new ≡ with_ioapic (ioapic_of self.old) (acknowledged (chip_of (ioapic_of self.old)) pin) }
+        ensures after { ioapic_of self.new ≡ with_ioapic (ioapic_of self.old) (pin_acked (chip_of (ioapic_of self.old)) pin) }
         ensures fits { IoapicFits self.new.ioapic self.new.levels }
     {
         self.ioapic.acked(pin);

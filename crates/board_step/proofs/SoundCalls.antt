@@ -34,7 +34,7 @@ use Rattle.irq_base.specs.Counts.{signalled_all}
 use Rattle.irq_base.specs.declared.message.Source.TheVariants.{Tick as TickSource}
 use Rattle.irq_base.specs.declared.shape.Part.{Part}
 use Rattle.irq_base.specs.declared.status.Status.{Status}
-use Rattle.ioapic_82093aa.specs.Pins.{pin_accepted, acknowledged}
+use Rattle.ioapic_82093aa.specs.Pins.{pin_accepted, pin_acked}
 use Rattle.lapic.specs.Messages.{accepted}
 use Rattle.source_levels.specs.Holds.{hold}
 use Rattle.tick_reinject.specs.declared.state.TickState.{TickState}
@@ -167,7 +167,7 @@ module _ (r : RegistryPart) (shape : Shape) (bound : ℕ) where
           (counts_signalled_all r shape.counters (resampled registry.irqfds gsi) b.counters (each parts.Counters) (subst (λ (q : RegistryPart). NoTriggers r (resampled q.irqfds gsi)) (sym (is_seen registry seen)) (resampled_free shape r fine gsi)));
       notifies = λ registry gsi seen b each. fits parts.Counters (signalled_all b.counters (watched registry.watches gsi)) b each
           (counts_signalled_all r shape.counters (watched registry.watches gsi) b.counters (each parts.Counters) (subst (λ (q : RegistryPart). NoTriggers r (watched q.watches gsi)) (sym (is_seen registry seen)) (watched_free shape r fine gsi)));
-      clears = λ pin b each. fits parts.Ioapic (with_ioapic b.ioapic (acknowledged (ioapic_of b.ioapic) pin)) b each (record { entries = length-set b.ioapic.entries pin _ ∙ (each parts.Ioapic).entries; holds = (each parts.Ioapic).holds });
+      clears = λ pin b each. fits parts.Ioapic (with_ioapic b.ioapic (pin_acked (ioapic_of b.ioapic) pin)) b each (record { entries = length-set b.ioapic.entries pin _ ∙ (each parts.Ioapic).entries; holds = (each parts.Ioapic).holds });
       frees = λ b each. fits parts.Tick (tick_acked b.tick) b each (tick_acked_low b.tick bound (each parts.Tick));
       falls = λ status b each. fits parts.Tick (tick_injected b.tick status) b each (tick_injected_low b.tick status bound (each parts.Tick));
       pairs = λ pair b each. fits parts.Pic (with_pair b.pic pair) b each (each parts.Pic);

@@ -20,7 +20,7 @@ use Rattle.irq_base.specs.declared.shape.Shape.{Shape}
 use Rattle.pic_8259a.specs.Pair.{is_port, has_output, cycle, write_to as pair_write_to, read_from as pair_read_from}
 use Rattle.ioapic_82093aa.specs.declared.ioapic.Raise.{Raise}
 use Rattle.ioapic_82093aa.specs.declared.ioapic.Raise.TheVariants as raises
-use Rattle.ioapic_82093aa.specs.Pins.{raise_of, entry_at, acknowledged, Written, write_to, resend_of}
+use Rattle.ioapic_82093aa.specs.Pins.{raise_of, entry_at, pin_acked, Written, write_to, resend_of}
 use Rattle.lapic.specs.Messages.{is_taken}
 use Rattle.lapic.specs.declared.outcome.Effect.{Effect}
 use Rattle.lapic.specs.declared.outcome.Effect.TheVariants as effects
@@ -148,7 +148,7 @@ module _ (routing : Routing) (shape : Shape) (n : ℕ) (far : shape.cpus ≤ n) 
 
   far_level : (b : Board) (pin : Pin) → of_level routing shape b pin (Lapic n) ≡ false
   far_level b (pins.Pic pin) = refl
-  far_level b (pins.Ioapic pin) = and_false (entry_at (ioapic_of b.ioapic) pin).level _ (far_resend (resend_of (acknowledged (ioapic_of b.ioapic) pin) pin))
+  far_level b (pins.Ioapic pin) = and_false (entry_at (ioapic_of b.ioapic) pin).level _ (far_resend (resend_of (pin_acked (ioapic_of b.ioapic) pin) pin))
 
   far_tick : (b : Board) (gsi : Option ℕ) → of_tick routing shape b gsi (Lapic n) ≡ false
   far_tick b None = refl

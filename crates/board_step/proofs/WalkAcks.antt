@@ -9,7 +9,7 @@ use Rattle.irq_base.specs.declared.message.Source.TheVariants.{Resample, Tick as
 use Rattle.irq_base.specs.declared.shape.Part.TheVariants as parts
 use Rattle.irq_base.specs.declared.shape.Shape.{Shape}
 use Rattle.irq_base.specs.declared.status.Status.{Status}
-use Rattle.ioapic_82093aa.specs.Pins.{entry_at, acknowledged, resend_of}
+use Rattle.ioapic_82093aa.specs.Pins.{entry_at, pin_acked, resend_of}
 use Rattle.irqfd_set.specs.Rows.{has_resampler}
 use Rattle.resampler.specs.Resample.{resampled, resample_events}
 use Rattle.tick_reinject.specs.Ticks.{ack_injects, tick_acked, tick_injected}
@@ -65,12 +65,12 @@ module _ (w : Walk) where
 
   -- ---- steps 4 and 5
 
-  pub end_level_holds : (cpus : ℕ) → Signals w cpus → ((pin : ℕ) → Shows w (resent pin)) → ((pin : ℕ) (b : Board) → w.Fit b → w.May b parts.Ioapic (with_ioapic b.ioapic (acknowledged (ioapic_of b.ioapic) pin))) → (pin : Pin) → Holds w (end_level cpus pin)
+  pub end_level_holds : (cpus : ℕ) → Signals w cpus → ((pin : ℕ) → Shows w (resent pin)) → ((pin : ℕ) (b : Board) → w.Fit b → w.May b parts.Ioapic (with_ioapic b.ioapic (pin_acked (ioapic_of b.ioapic) pin))) → (pin : Pin) → Holds w (end_level cpus pin)
   end_level_holds cpus s resends clears (pins.Pic pin) = ended w tt
   end_level_holds cpus s resends clears (pins.Ioapic pin) = λ b ws fit. w.looks parts.Ioapic (λ part. if (entry_at (ioapic_of part) pin).level then clear_and_resend cpus pin part else done tt) b ws
       (either_at w (entry_at (ioapic_of b.ioapic) pin).level (clear_and_resend cpus pin b.ioapic) (done tt) b ws
-      (w.puts parts.Ioapic (with_ioapic b.ioapic (acknowledged (ioapic_of b.ioapic) pin)) (resend cpus pin (resend_of (acknowledged (ioapic_of b.ioapic) pin) pin)) b ws fit (clears pin b fit)
-      (resend_holds cpus s pin (resends pin) (resend_of (acknowledged (ioapic_of b.ioapic) pin) pin) (with_part b parts.Ioapic (with_ioapic b.ioapic (acknowledged (ioapic_of b.ioapic) pin))) ws))
+      (w.puts parts.Ioapic (with_ioapic b.ioapic (pin_acked (ioapic_of b.ioapic) pin)) (resend cpus pin (resend_of (pin_acked (ioapic_of b.ioapic) pin) pin)) b ws fit (clears pin b fit)
+      (resend_holds cpus s pin (resends pin) (resend_of (pin_acked (ioapic_of b.ioapic) pin) pin) (with_part b parts.Ioapic (with_ioapic b.ioapic (pin_acked (ioapic_of b.ioapic) pin))) ws))
       (w.ends tt b ws fit))
 
   module _ (routing : Routing) (shape : Shape) where

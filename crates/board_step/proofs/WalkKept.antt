@@ -12,7 +12,7 @@ use Rattle.irq_base.specs.declared.shape.Part.TheVariants.{Registry, Counters, T
 use Rattle.irq_base.specs.declared.shape.Shape.{Shape}
 use Rattle.irq_base.specs.declared.status.Status.{Status}
 use Rattle.pic_8259a.specs.declared.pair.Pair.{Pair}
-use Rattle.ioapic_82093aa.specs.Pins.{pin_accepted, acknowledged, write_to}
+use Rattle.ioapic_82093aa.specs.Pins.{pin_accepted, pin_acked, write_to}
 use Rattle.lapic.specs.Registers.{LocalApic}
 use Rattle.lapic.specs.Messages.{accepted}
 use Rattle.lapic.specs.Offsets.{store_to}
@@ -85,7 +85,7 @@ module _ (P : Board → Type 0) where
       pub ticks : MayRaise walk (routing.targets shape.tick) TickSource
       pub resamples : (registry : RegistryPart) (gsi : ℕ) → Seen walk Registry registry → (b : Board) → P b → P (with_part b Counters (signalled_all b.counters (resampled registry.irqfds gsi)))
       pub notifies : (registry : RegistryPart) (gsi : ℕ) → Seen walk Registry registry → (b : Board) → P b → P (with_part b Counters (signalled_all b.counters (watched registry.watches gsi)))
-      pub clears : (pin : ℕ) (b : Board) → P b → P (with_part b Ioapic (with_ioapic b.ioapic (acknowledged (ioapic_of b.ioapic) pin)))
+      pub clears : (pin : ℕ) (b : Board) → P b → P (with_part b Ioapic (with_ioapic b.ioapic (pin_acked (ioapic_of b.ioapic) pin)))
       pub frees : (b : Board) → P b → P (with_part b Tick (tick_acked b.tick))
       pub falls : (status : Status) (b : Board) → P b → P (with_part b Tick (tick_injected b.tick status))
       pub pairs : (pair : Pair) (b : Board) → P b → P (with_part b Pic (with_pair b.pic pair))

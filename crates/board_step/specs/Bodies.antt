@@ -1,5 +1,5 @@
 -- What a body is worth that runs a call on parts in hand, whatever board they are of (this board's own rule).
-use Rattle.std.specs.Prelude.{◌≡◌, ℕ, true, List, [], ◌∷◌, ◌++◌, take, Result, Ok, Err, is_some, None}
+use Rattle.std.specs.Prelude.{◌≡◌, ℕ, true, List, [], ◌∷◌, Result, Ok, Err, is_some, None}
 use Rattle.irq_base.specs.Callers.{is_allowed}
 use Rattle.irq_base.specs.declared.call.Call.{Call}
 use Rattle.irq_base.specs.declared.call.Caller.{Caller}
@@ -8,6 +8,7 @@ use Rattle.irq_base.specs.declared.lists.Entry.{Entry}
 use Rattle.irq_base.specs.declared.reply.Reply.{Reply}
 use Rattle.irq_base.specs.declared.shape.Part.{Part}
 use Rattle.irq_base.specs.declared.shape.Shape.{Shape}
+use Rattle.irq_base.specs.Room.{with_told}
 use Rattle.board_model.specs.Board.{Board}
 use Rattle.board_model.specs.Hand.{Parts, part_in}
 use Rattle.board_model.specs.Published.{published, routing_of_words, IsSoundRegistry}
@@ -70,10 +71,6 @@ BodiesStep =
     → IsOf shape words q b → IsWorth b caller call q (run_on (plan_by words shape caller call) q ws)
 
 -- ---- bodies in code
-
--- the events in a list with room for 640, after these were told; what finds no room is left out
-abbrev pub with_told : List Event → List Event → List Event
-with_told before told = take 640 (before ++ told)
 
 -- a body gave what a run gave: its one reply, its events behind those before, the parts and the wishes left
 pub record IsGiven (reply : Reply) (before events : List Event) (after left : Parts) (later wishes : Wishes) (log : Log) : Type 0 where

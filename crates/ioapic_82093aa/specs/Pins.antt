@@ -92,8 +92,8 @@ pin_accepted io pin =
     with_entry_at io pin (record (entry_at io pin) { remote_irr = (entry_at io pin).level || (entry_at io pin).remote_irr })
 
 -- an end of interrupt clears remote IRR
-abbrev pub acknowledged : Ioapic → ℕ → Ioapic
-acknowledged io pin = with_entry_at io pin (record (entry_at io pin) { remote_irr = false })
+abbrev pub pin_acked : Ioapic → ℕ → Ioapic
+pin_acked io pin = with_entry_at io pin (record (entry_at io pin) { remote_irr = false })
 
 -- whether the entry has that vector, masked or not
 abbrev pub has_vector : Ioapic → ℕ → ℕ → Bool

@@ -1,9 +1,9 @@
 //! The chip.
-ghost use Rattle.std.specs.Prelude.{◌≡◌, ℕ, ◌<◌, IsTrue};
+ghost use Rattle.std.specs.Prelude.{◌≡◌, ℕ, ◌<◌, IsTrue, IfSome};
 ghost use Rattle.ioapic_82093aa.specs.Entries.{WordsTellTheEntry};
 ghost use Rattle.reg_table.specs.Rows.{ResetsAreReadable};
 ghost use Rattle.ioapic_82093aa.specs.Registers.{register_of, register_rows};
-ghost use Rattle.ioapic_82093aa.specs.Pins.{entry_at, ioapic_at_power_on, read_from, write_to, word_of_register, register_written, raised, raise_of, lowered, pin_accepted, acknowledged, has_vector, resend_of, RegistersStartAsTold};
+ghost use Rattle.ioapic_82093aa.specs.Pins.{entry_at, ioapic_at_power_on, read_from, write_to, word_of_register, register_written, raised, raise_of, lowered, pin_accepted, pin_acked, has_vector, resend_of, RegistersStartAsTold};
 
 use crate::entry::Entry;
 use crate::pins::{PINS, Pin, Pins};
@@ -73,6 +73,8 @@ impl Ioapic {
     fn write_selected(&mut self, value: u32) -> Option<u8>
         ensures after { self.new ≡ (register_written self.old (register_of self.old.selected) value).after }
         ensures pin { result ≡ (register_written self.old (register_of self.old.selected) value).pin }
+        ensures in_range { IfSome result (λ p. p < 24) }
+        ensures high { self.new.high ≡ self.old.high }
     {
         let Selected { register, writable } = register_at(self.selected);
         let value = value & writable;
@@ -98,6 +100,8 @@ impl Ioapic {
     pub fn write(&mut self, offset: u8, value: u32) -> Option<u8>
         ensures after { self.new ≡ (write_to self.old offset value).after }
         ensures pin { result ≡ (write_to self.old offset value).pin }
+        ensures in_range { IfSome result (λ p. p < 24) }
+        ensures high { self.new.high ≡ self.old.high }
     {
         match offset {
             0x00 => {
@@ -169,7 +173,7 @@ impl Ioapic {
     /// The interrupt of a pin, of 0 to 23, has ended: remote IRR is cleared.
     pub fn acked(&mut self, pin: u8)
         requires { pin < 24 }
-        ensures { self.new ≡ acknowledged self.old pin }
+        ensures { self.new ≡ pin_acked self.old pin }
     {
         self.entries[pin as usize].remote_irr = false;
     }

@@ -170,6 +170,20 @@ impl Lapic {
         stood
     }
 
+    /// Whether an NMI is pending.
+    pub fn has_nmi(&self) -> bool
+        ensures { result ≡ self.now.nmi }
+    {
+        self.nmi
+    }
+
+    /// The greatest request whose class is above that of the processor priority: what `give` would give.
+    pub fn giveable(&self) -> Option<u8>
+        ensures { result ≡ giveable_of self.now }
+    {
+        greatest_above(&self.irr, self.ppr())
+    }
+
     /// Takes the pending NMI, if there is one.
     pub fn take_nmi(&mut self) -> bool
         ensures pending { result ≡ self.old.nmi }
@@ -185,7 +199,7 @@ impl Lapic {
         ensures vector { result ≡ giveable_of self.old }
         ensures after { self.new ≡ given self.old result }
     {
-        let vector = greatest_above(&self.irr, self.ppr())?;
+        let vector = self.giveable()?;
         self.irr.remove(vector);
         self.isr.insert(vector);
         Some(vector)

@@ -1,7 +1,7 @@
 -- The pair of 8259As: its ports, its sixteen pins and its acknowledge cycle.
 -- 8259A data sheet, cascade mode and the interrupt sequence; the ports are those of the PC, the edge/level registers
 -- those of the PIIX chips.
-use Rattle.std.specs.Prelude.{◌≡◌, ℕ, ◌+◌, ◌%◌, Bool, ◌||◌, nat_eq, nat_lt, is_some, if◌then◌else◌, Some, None, List, [], ◌∷◌, map}
+use Rattle.std.specs.Prelude.{◌≡◌, ℕ, ◌+◌, ◌%◌, Bool, ◌||◌, nat_eq, nat_lt, is_some, if◌then◌else◌, Some, None, List, [], ◌∷◌, map, ◌<◌, IfSome}
 use Rattle.std.specs.declared.option.Option.{Option}
 use Rattle.std.specs.FinSet as set
 use Rattle.reg_table.specs.Rows.{resets}
@@ -153,3 +153,15 @@ cycle_by (Some t) p =
 
 abbrev pub cycle : Pair → Cycle
 cycle p = cycle_by (master_top p) p
+
+-- ---- what every access keeps
+
+-- both pairs have the same pins high
+pub record SameHigh (p q : Pair) : Type 0 where
+  pub master : q.master.high ≡ p.master.high
+  pub slave : q.slave.high ≡ p.slave.high
+
+-- the pins of a cycle: that of the master below 8, that of the slave below 16
+pub record InRange (pins : AckedPins) : Type 0 where
+  pub master : IfSome pins.master (λ p. p < 8)
+  pub slave : IfSome pins.slave (λ p. p < 16)

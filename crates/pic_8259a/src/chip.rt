@@ -179,6 +179,7 @@ impl Chip {
     pub fn acknowledge(&mut self, level: Level) -> Option<Level>
         ensures after { self.new ≡ (level_acknowledged self.old level).after }
         ensures pin { result ≡ (level_acknowledged self.old level).pin }
+        ensures pins { self.new.high ≡ self.old.high }
     {
         self.latches = self.latches.without(level);
         if self.auto_eoi {
@@ -197,6 +198,7 @@ impl Chip {
     pub fn end(&mut self, level: Option<Level>) -> Option<Level>
         ensures after { self.new ≡ (ended self.old level).after }
         ensures pin { result ≡ (ended self.old level).pin }
+        ensures pins { self.new.high ≡ self.old.high }
     {
         let level = level?;
         let was_in_service = self.isr.has(level);
@@ -208,6 +210,7 @@ impl Chip {
     pub fn command(&mut self, value: u8) -> Option<Level>
         ensures after { self.new ≡ (commanded self.old value).after }
         ensures pin { result ≡ (commanded self.old value).pin }
+        ensures pins { self.new.high ≡ self.old.high }
     {
         let level = Level::of(value);
         match value / 32 {
@@ -243,7 +246,8 @@ impl Chip {
 
     /// Obeys an OCW3: special mask mode, poll command, and the register that the even port reads.
     pub fn control(&mut self, value: u8)
-        ensures { self.new ≡ controlled self.old value }
+        ensures after { self.new ≡ controlled self.old value }
+        ensures pins { self.new.high ≡ self.old.high }
     {
         match value / 32 % 4 {
             3 => self.special_mask = true,
@@ -262,7 +266,8 @@ impl Chip {
 
     /// Obeys an ICW1, which begins the initialisation.
     pub fn initialise(&mut self, value: u8)
-        ensures { self.new ≡ initialised self.old value }
+        ensures after { self.new ≡ initialised self.old value }
+        ensures pins { self.new.high ≡ self.old.high }
     {
         let icw4 = has_bit(value, 0);
         self.imr = Levels::none();
@@ -285,6 +290,7 @@ impl Chip {
     pub fn write_even(&mut self, value: u8) -> Option<Level>
         ensures after { self.new ≡ (even_written self.old value).after }
         ensures pin { result ≡ (even_written self.old value).pin }
+        ensures pins { self.new.high ≡ self.old.high }
     {
         if has_bit(value, 4) {
             self.initialise(value);
@@ -299,7 +305,8 @@ impl Chip {
 
     /// Obeys a word at the odd port: the initialisation word that is expected, else a new mask.
     pub fn write_odd(&mut self, value: u8)
-        ensures { self.new ≡ odd_written self.old value }
+        ensures after { self.new ≡ odd_written self.old value }
+        ensures pins { self.new.high ≡ self.old.high }
     {
         match self.expects {
             Expects::Icw2 { icw3, icw4 } => {
@@ -334,6 +341,7 @@ impl Chip {
         ensures after { self.new ≡ (polled self.old place).after }
         ensures value { result.0 ≡ (polled self.old place).value }
         ensures pin { result.1 ≡ (polled self.old place).pin }
+        ensures pins { self.new.high ≡ self.old.high }
     {
         let top = self.top(place);
         self.poll_pending = false;
@@ -351,6 +359,7 @@ impl Chip {
         ensures after { self.new ≡ (even_read self.old place).after }
         ensures value { result.0 ≡ (even_read self.old place).value }
         ensures pin { result.1 ≡ (even_read self.old place).pin }
+        ensures pins { self.new.high ≡ self.old.high }
     {
         if self.poll_pending {
             self.poll(place)
@@ -366,6 +375,7 @@ impl Chip {
         ensures after { self.new ≡ (odd_read self.old place).after }
         ensures value { result.0 ≡ (odd_read self.old place).value }
         ensures pin { result.1 ≡ (odd_read self.old place).pin }
+        ensures pins { self.new.high ≡ self.old.high }
     {
         if self.poll_pending {
             self.poll(place)
@@ -401,7 +411,8 @@ impl Chip {
 
     /// Writes the edge/level register.
     pub fn write_elcr(&mut self, levels: Levels)
-        ensures { self.new ≡ elcr_written self.old levels }
+        ensures after { self.new ≡ elcr_written self.old levels }
+        ensures pins { self.new.high ≡ self.old.high }
     {
         self.elcr = levels;
         self.latches = self.latches.minus(&levels);

@@ -1,6 +1,6 @@
 //! The master and the slave.
-ghost use Rattle.std.specs.Prelude.{◌≡◌, ℕ, ◌<◌, IsTrue};
-ghost use Rattle.pic_8259a.specs.Pair.{pair_at_power_on, slave_pin, master_place, write_to, read_from, is_port, has_output, cycle, pin_set, pin_outcome};
+ghost use Rattle.std.specs.Prelude.{◌≡◌, ℕ, ◌<◌, IsTrue, IfSome};
+ghost use Rattle.pic_8259a.specs.Pair.{pair_at_power_on, slave_pin, master_place, write_to, read_from, is_port, has_output, cycle, pin_set, pin_outcome, SameHigh, InRange};
 
 use crate::chip::{Chip, PinOutcome, Place};
 use crate::levels::{Level, Levels};
@@ -23,14 +23,16 @@ pub struct AckedPins {
 
 /// The pin of a level of the master.
 fn pin_of_master(level: Option<Level>) -> Option<u8>
-    ensures { result ≡ level }
+    ensures pin { result ≡ level }
+    ensures in_range { IfSome result (λ p. p < 8) }
 {
     Some(level?.number())
 }
 
 /// The pin of a level of the slave.
 fn pin_of_slave(level: Option<Level>) -> Option<u8>
-    ensures { result ≡ slave_pin level }
+    ensures pin { result ≡ slave_pin level }
+    ensures in_range { IfSome result (λ p. p < 16) }
 {
     Some(8 + level?.number())
 }
@@ -68,6 +70,8 @@ impl Pair {
         requires { IsTrue (is_port port) }
         ensures after { self.new ≡ (write_to self.old port value).after }
         ensures pin { result ≡ (write_to self.old port value).pin }
+        ensures in_range { IfSome result (λ p. p < 16) }
+        ensures high { SameHigh self.old self.new }
     {
         match port_at(port) {
             Port::MasterEven => pin_of_master(self.master.write_even(value)),
@@ -100,6 +104,8 @@ impl Pair {
         ensures after { self.new ≡ (read_from self.old port).after }
         ensures value { result.0 ≡ (read_from self.old port).value }
         ensures pin { result.1 ≡ (read_from self.old port).pin }
+        ensures in_range { IfSome result.1 (λ p. p < 16) }
+        ensures high { SameHigh self.old self.new }
     {
         match port_at(port) {
             Port::MasterEven => {
@@ -144,6 +150,8 @@ impl Pair {
         ensures after { self.new ≡ (cycle self.old).after }
         ensures vector { result.0 ≡ (cycle self.old).vector }
         ensures pins { result.1 ≡ (cycle self.old).pins }
+        ensures in_range { InRange result.1 }
+        ensures high { SameHigh self.old self.new }
     {
         let spurious = Level::of(7);
         let Some(top) = self.master.top(self.place()) else {
