@@ -16,7 +16,7 @@ use Rattle.ioapic_82093aa.specs.declared.ioapic.Ioapic.{Ioapic}
 use Rattle.source_levels.specs.Holds.{Hold, Holds, hold, is_of, is_high}
 use Rattle.source_levels.proofs.HoldLemmas.{hold_cmp_total, hold_cmp-IsAntisymmetric, high_where_held, held_where_high}
 use Rattle.board_raise.specs.Fit.{PairFits, IoapicFits}
-use Rattle.board_step.specs.Registrations.{is_same_gsi}
+use Rattle.board_calls.specs.Registrations.{is_same_gsi}
 use Rattle.board_calls.specs.Moved.{without_pin, kept_by}
 
 -- ---- sets of holds

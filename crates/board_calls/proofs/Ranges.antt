@@ -11,7 +11,7 @@ use Rattle.irq_base.specs.declared.call.Call.TheVariants.{Attach}
 use Rattle.irq_base.specs.declared.call.Space.{Space}
 use Rattle.irq_base.specs.declared.refusal.Refusal.TheVariants.{ChipAddress}
 use Rattle.irq_base.specs.declared.shape.Shape.{Shape}
-use Rattle.board_step.specs.Refusals.{bad_ioevent, bad_counter, is_chip_address, range_reasons}
+use Rattle.board_calls.specs.Refusals.{bad_ioevent, bad_counter, is_chip_address, range_reasons}
 
 -- a value of 64 bits fits each length from 8 bytes on
 pub fits_long : (value len : ℕ) → value < 2 ^ 64 → 8 ≤ len → nat_le 8 len ≡ nat_lt value (2 ^ (8 * len))

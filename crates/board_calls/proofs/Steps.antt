@@ -18,9 +18,9 @@ use Rattle.board_model.specs.Routing.{Routing}
 use Rattle.board_model.specs.Plan.{the_reply, Plan, look, put, reply, ◌>>=◌, ◌>>◌}
 use Rattle.board_raise.specs.Shown.{without_sets}
 use Rattle.board_ack.specs.Ticks.{inject_tick}
-use Rattle.board_step.specs.Refusals.{assign_reasons}
-use Rattle.board_step.specs.Registrations.{unless_refused, release, deassigned, deassign, inject_count, assigned, assign}
-use Rattle.board_step.specs.Ticks.{tick_or_hold, tick}
+use Rattle.board_calls.specs.Refusals.{assign_reasons}
+use Rattle.board_calls.specs.Registrations.{unless_refused, release, deassigned, deassign, inject_count, assigned, assign}
+use Rattle.board_calls.specs.Ticks.{tick_or_hold, tick}
 use Rattle.board_calls.specs.Pieces.{removed, removing, added, adding, falling}
 
 -- ---- an irqfd ends

@@ -1,3 +1,9 @@
+pub mod Refusals
+pub mod Registrations
+pub mod Ticks
+pub mod Processors
+pub mod Accesses
+pub mod Calls
 pub mod Done
 pub mod Moved
 pub mod Pieces

@@ -6,7 +6,7 @@ use Rattle.irq_base.specs.declared.event.Pin.TheVariants.{Pic, Ioapic}
 use Rattle.source_levels.specs.Holds.{Hold, Holds, is_of}
 use Rattle.route_table.specs.Rows.{Table}
 use Rattle.route_table.specs.Pins.{gsi_of}
-use Rattle.board_step.specs.Registrations.{is_same_gsi}
+use Rattle.board_calls.specs.Registrations.{is_same_gsi}
 use Rattle.board_calls.specs.declared.reroute.PinGsis.{PinGsis}
 
 -- the GSI of each pin by a table, none for a pin that a chip does not have

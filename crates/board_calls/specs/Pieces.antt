@@ -11,8 +11,8 @@ use Rattle.irqfd_set.specs.Rows.{has_trigger, named_row, with_row, without_row}
 use Rattle.tick_reinject.specs.Ticks.{tick_injects, ticked}
 use Rattle.board_model.specs.Registry.{RegistryPart}
 use Rattle.board_model.specs.Plan.{Plan, done, see, set as put_part, ◌>>=◌, ◌>>◌}
-use Rattle.board_step.specs.Refusals.{assign_reasons}
-use Rattle.board_step.specs.Registrations.{was_last_resampler}
+use Rattle.board_calls.specs.Refusals.{assign_reasons}
+use Rattle.board_calls.specs.Registrations.{was_last_resampler}
 
 -- ---- an irqfd ends
 

@@ -2,7 +2,7 @@
 ghost use Rattle.std.specs.Prelude.{◌≡◌, ◌<◌, ◌-◌, ◌^◌, length, IfSome};
 ghost use Rattle.irq_base.specs.declared.shape.Shape.{Shape};
 ghost use Rattle.board_model.specs.Run.{Wishes};
-ghost use Rattle.board_step.specs.Registrations.{count_written, take};
+ghost use Rattle.board_calls.specs.Registrations.{count_written, take};
 ghost use Rattle.board_calls.specs.Done.{Replies, SameInHand, FitsShape};
 
 use board_raise::{Lacks, Parts};

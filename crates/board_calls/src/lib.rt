@@ -1,9 +1,10 @@
-//! The calls of devices, registrations and ticks on the parts of a board that a rig holds: each does there what its plan does.
+//! What each call of a board does, and the calls in code, on the parts of a board that a rig holds: each does there what its
+//! plan does.
 //!
-//! The plans stand in `Registrations`, `Ticks` and `Calls` of board_step, the reasons of refusals in its `Refusals`. Reading order
-//! of the definitions here: `Families` (which call has which function), `Done` (what a call in code is to its plan: reply, parts
-//! and wishes are the plan's, or what is lacking is), `Told` (events past their room), `Moved` (holds of pins whose GSI moves),
-//! `Pieces` (the first steps of calls that signal after them).
+//! Reading order of the definitions: `Refusals` (why a call is refused), `Registrations`, `Ticks`, `Processors` and `Accesses`
+//! (what each call does), `Calls` (all of them); and of the code: `Families` (which call has which function), `Done` (what a
+//! call in code is to its plan: reply, parts and wishes are the plan's, or what is lacking is), `Told` (events past their
+//! room), `Moved` (holds of pins whose GSI moves), `Pieces` (the first steps of calls that signal after them).
 #![tactic(auto)]
 
 mod counters;

@@ -3,7 +3,7 @@ ghost use Rattle.std.specs.Prelude.{◌≡◌, ◌∷◌, [], ◌/◌, ◌^◌, 
 ghost use Rattle.irq_base.specs.Refusals.{first_of};
 ghost use Rattle.irq_base.specs.declared.refusal.Refusal.TheVariants.{NoLine, BadMsi, BadCount, ChipAddress};
 ghost use Rattle.pic_8259a.specs.Pair.{is_port};
-ghost use Rattle.board_step.specs.Refusals.{bad_gsi, bad_counter, bad_resample, is_length, does_fit, bad_access, match_fits, lies_within, bad_ioevent, is_chip_address, is_ioapic_address, is_lapic_address, range_reasons};
+ghost use Rattle.board_calls.specs.Refusals.{bad_gsi, bad_counter, bad_resample, is_length, does_fit, bad_access, match_fits, lies_within, bad_ioevent, is_chip_address, is_ioapic_address, is_lapic_address, range_reasons};
 
 use irq_base::{Call, Refusal, Shape, Space};
 use route_table::refusal_of;

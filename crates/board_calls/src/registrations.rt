@@ -9,8 +9,8 @@ ghost use Rattle.ioevent_set.specs.Rows.{attach_answer, detach_answer, without_r
 ghost use Rattle.std.specs.List.{list_any};
 ghost use Rattle.board_model.specs.Run.{Wishes};
 ghost use Rattle.board_raise.specs.InHand.{registry_of};
-ghost use Rattle.board_step.specs.Refusals.{watch_reasons};
-ghost use Rattle.board_step.specs.Registrations.{attach, detach, watch, unwatch};
+ghost use Rattle.board_calls.specs.Refusals.{watch_reasons};
+ghost use Rattle.board_calls.specs.Registrations.{attach, detach, watch, unwatch};
 ghost use Rattle.board_calls.specs.Done.{Replies, SameInHand, FitsShape};
 
 use board_raise::{Lacks, Parts, RegistryPart};

@@ -8,7 +8,7 @@ ghost use Rattle.route_table.specs.Pins.{gsi_of};
 ghost use Rattle.board_model.specs.Run.{Wishes};
 ghost use Rattle.board_raise.specs.Fit.{PairFits, IoapicFits};
 ghost use Rattle.board_raise.specs.InHand.{pic_of, ioapic_of};
-ghost use Rattle.board_step.specs.Registrations.{is_same_gsi, reroute};
+ghost use Rattle.board_calls.specs.Registrations.{is_same_gsi, reroute};
 ghost use Rattle.board_calls.specs.Done.{Replies, SameInHand, FitsShape};
 ghost use Rattle.board_calls.specs.Moved.{AreGsis, kept_by, without_pin};
 

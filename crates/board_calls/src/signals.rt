@@ -8,7 +8,7 @@ ghost use Rattle.board_model.specs.Published.{routing_of_words};
 ghost use Rattle.board_raise.specs.Fit.{PinsFit};
 ghost use Rattle.board_raise.specs.InHand.{chips_of};
 ghost use Rattle.board_raise.specs.Signal.{lower};
-ghost use Rattle.board_step.specs.Registrations.{line_set, message_sent, source_of, trigger_written, write};
+ghost use Rattle.board_calls.specs.Registrations.{line_set, message_sent, source_of, trigger_written, write};
 ghost use Rattle.board_calls.specs.Done.{Replies, SameInHand, FitsShape};
 
 use crate::counters::add;

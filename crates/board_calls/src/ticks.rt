@@ -9,7 +9,7 @@ ghost use Rattle.board_model.specs.Published.{routing_of_words};
 ghost use Rattle.board_model.specs.Run.{Wishes, run_on};
 ghost use Rattle.board_raise.specs.InHand.{parts_of};
 ghost use Rattle.board_raise.specs.Shown.{DoesQuietly, Leaves};
-ghost use Rattle.board_step.specs.Ticks.{tick, tick_mode};
+ghost use Rattle.board_calls.specs.Ticks.{tick, tick_mode};
 ghost use Rattle.board_calls.specs.Done.{Replies, SameInHand, FitsShape, FitsButTick};
 ghost use Rattle.board_calls.specs.Pieces.{falling};
 

@@ -22,10 +22,10 @@ use Rattle.board_model.specs.Routing.{Routing, routing_of_registry}
 use Rattle.board_model.specs.Plan.{injected, Plan, done, tell, reply, ◌>>◌}
 use Rattle.board_model.specs.Run.{Wishes, run}
 use Rattle.board_raise.specs.Signal.{inject}
-use Rattle.board_step.specs.Refusals.{range_reasons, assign_reasons, is_ioapic_address, is_lapic_address}
-use Rattle.board_step.specs.Registrations.{unless_refused, source_of, inject_count, assigned, assign}
-use Rattle.board_step.specs.Accesses.{port_out, store, pair_write, ioapic_store, lapic_store, ring_counter, rung, ring}
-use Rattle.board_step.specs.Calls.{number_of}
+use Rattle.board_calls.specs.Refusals.{range_reasons, assign_reasons, is_ioapic_address, is_lapic_address}
+use Rattle.board_calls.specs.Registrations.{unless_refused, source_of, inject_count, assigned, assign}
+use Rattle.board_calls.specs.Accesses.{port_out, store, pair_write, ioapic_store, lapic_store, ring_counter, rung, ring}
+use Rattle.board_calls.specs.Calls.{number_of}
 use Rattle.board_step.specs.Step.{plan_on}
 use Rattle.board_laws.specs.Rings.{rung_on}
 use Rattle.board_laws.specs.Irqfds.{InjectsAtMostOnce, RingsOnce, OneInjectionOfAnIrqfd}

@@ -25,7 +25,7 @@ use Rattle.board_model.specs.Plan.{the_reply, Plan, change}
 use Rattle.board_model.specs.Run.{Wishes, Outcome, run}
 use Rattle.board_model.proofs.Sequence.{run-bind}
 use Rattle.board_raise.specs.Signal.{inject}
-use Rattle.board_step.specs.Ticks.{tick_or_hold}
+use Rattle.board_calls.specs.Ticks.{tick_or_hold}
 use Rattle.board_step.specs.Step.{plan_on, outcome_of, with_counts, would_publish, Step}
 use Rattle.board_step.specs.History.{opening, next_board, Leads, board_after}
 use Rattle.board_laws.specs.Points.{board_at, board_left, OfLegalHistories}

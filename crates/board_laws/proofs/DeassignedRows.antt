@@ -30,9 +30,9 @@ use Rattle.board_model.proofs.Sequence.{run-bind}
 use Rattle.board_raise.specs.Signal.{inject}
 use Rattle.board_raise.proofs.Manner.{Manner, Keeps, keeps_bind, registry_stays}
 use Rattle.board_raise.proofs.SignalSteady.{let_go_keeps, inject_keeps}
-use Rattle.board_step.specs.Refusals.{range_reasons, is_trigger, is_signalled, resample_clashes, assign_reasons, attach_reasons, detach_reasons, watch_reasons, unwatch_reasons}
-use Rattle.board_step.specs.Registrations.{unless_refused, source_of, inject_count, assigned, was_last_resampler, release, deassigned}
-use Rattle.board_step.specs.Calls.{number_of, io_row, plan_in_range}
+use Rattle.board_calls.specs.Refusals.{range_reasons, is_trigger, is_signalled, resample_clashes, assign_reasons, attach_reasons, detach_reasons, watch_reasons, unwatch_reasons}
+use Rattle.board_calls.specs.Registrations.{unless_refused, source_of, inject_count, assigned, was_last_resampler, release, deassigned}
+use Rattle.board_calls.specs.Calls.{number_of, io_row, plan_in_range}
 use Rattle.board_step.specs.Step.{plan_on, outcome_of, with_counts, would_publish, Step}
 use Rattle.board_step.specs.History.{opening}
 use Rattle.board_laws.specs.Deassigned.{EndsTrigger, MakesTrigger}

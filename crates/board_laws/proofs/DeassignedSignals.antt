@@ -28,10 +28,10 @@ use Rattle.board_model.specs.Board.{Board, part_of, with_part}
 use Rattle.board_model.specs.Routing.{Routing, routing_of_registry, trigger_of}
 use Rattle.board_model.specs.Plan.{Plan, put, tell, reply, ◌>>◌}
 use Rattle.board_model.specs.Run.{Wishes, Outcome, run}
-use Rattle.board_step.specs.Refusals.{range_reasons, write_reasons, is_trigger, is_ioapic_address, is_lapic_address}
-use Rattle.board_step.specs.Registrations.{unless_refused, write}
-use Rattle.board_step.specs.Accesses.{pair_write, ioapic_store, lapic_store, port_out, store, ring_counter, rung, ring}
-use Rattle.board_step.specs.Calls.{number_of}
+use Rattle.board_calls.specs.Refusals.{range_reasons, write_reasons, is_trigger, is_ioapic_address, is_lapic_address}
+use Rattle.board_calls.specs.Registrations.{unless_refused, write}
+use Rattle.board_calls.specs.Accesses.{pair_write, ioapic_store, lapic_store, port_out, store, ring_counter, rung, ring}
+use Rattle.board_calls.specs.Calls.{number_of}
 use Rattle.board_step.specs.Step.{refusal_of, does_publish, publishes_unless, would_publish, plan_on, outcome_of, with_counts, Step}
 use Rattle.board_step.specs.History.{opening, Leads, board_after}
 use Rattle.board_laws.specs.Points.{Point, board_at, board_left, IsLegal, OfLegalHistories}

@@ -34,10 +34,10 @@ use Rattle.board_model.specs.Run.{Wishes, Outcome, run}
 use Rattle.board_raise.specs.Send.{send}
 use Rattle.board_raise.specs.Signal.{pic_raised, pic_answer, ioapic_raised, is_accepted, accept_pin, ioapic_answered, raise_other, raise, let_go_pic, let_go_ioapic, let_go, let_go_after, lowered_status, lower, inject}
 use Rattle.board_raise.specs.Laws.{HasProcessors}
-use Rattle.board_step.specs.Refusals.{range_reasons}
-use Rattle.board_step.specs.Registrations.{unless_refused, source_of, trigger_written, write}
-use Rattle.board_step.specs.Ticks.{tick_or_hold}
-use Rattle.board_step.specs.Calls.{number_of, plan_in_range}
+use Rattle.board_calls.specs.Refusals.{range_reasons}
+use Rattle.board_calls.specs.Registrations.{unless_refused, source_of, trigger_written, write}
+use Rattle.board_calls.specs.Ticks.{tick_or_hold}
+use Rattle.board_calls.specs.Calls.{number_of, plan_in_range}
 use Rattle.board_step.specs.Step.{plan_on, outcome_of, with_counts, would_publish}
 use Rattle.board_laws.specs.Effect.{message_target, signal_targets, message_raised, pic_answer_on, raise_answer_on, IsSaidOf, is_without_effect, ChangesNoRequest, CoalescedAndIgnoredChangeNoRequest}
 use Rattle.board_laws.proofs.EffectStood.{raise_stood, raised_stood}

@@ -14,8 +14,8 @@ use Rattle.board_model.specs.Run.{run}
 use Rattle.board_model.proofs.Staying.{frame_stays}
 use Rattle.board_raise.specs.Send.{numbers_below}
 use Rattle.board_raise.specs.Laws.{HasProcessors}
-use Rattle.board_step.specs.Refusals.{range_reasons}
-use Rattle.board_step.specs.Calls.{number_of, plan_in_range}
+use Rattle.board_calls.specs.Refusals.{range_reasons}
+use Rattle.board_calls.specs.Calls.{number_of, plan_in_range}
 use Rattle.board_step.specs.Sound.{LapicsStand}
 use Rattle.board_step.specs.Step.{plan_on, outcome_of, with_counts, would_publish, Step}
 use Rattle.board_step.specs.History.{opening}

@@ -14,15 +14,15 @@ use Rattle.board_model.specs.Plan.{About, injected, resent, ipi, the_reply, chan
 use Rattle.board_model.specs.Run.{next_wish, later_wishes}
 use Rattle.board_raise.proofs.Manner.{in_reply}
 use Rattle.board_ack.specs.Acknowledge.{say_each, signal_each, resample}
-use Rattle.board_step.specs.Registrations.{source_of, inject_count}
-use Rattle.board_step.specs.Accesses.{rung}
-use Rattle.board_step.specs.Calls.{io_row, plan_in_range}
+use Rattle.board_calls.specs.Registrations.{source_of, inject_count}
+use Rattle.board_calls.specs.Accesses.{rung}
+use Rattle.board_calls.specs.Calls.{io_row, plan_in_range}
 use Rattle.board_step.proofs.CallManner.{replies_in}
 use Rattle.std.proofs.Common.{◌++◌}
 use Rattle.irq_base.specs.Counts.{signalled_all}
 use Rattle.irq_base.specs.declared.shape.Part.TheVariants as parts
 use Rattle.ack_notifiers.specs.Rows.{watched}
-use Rattle.board_step.specs.Registrations.{write}
+use Rattle.board_calls.specs.Registrations.{write}
 use Rattle.board_step.proofs.Walk.{Walk, Holds, after}
 use Rattle.board_step.proofs.WalkSignals.{Shows, inject_only}
 use Rattle.board_step.proofs.WalkAcks.{end_level_holds, Tells, Ends, acks_hold, inject_tick_holds}

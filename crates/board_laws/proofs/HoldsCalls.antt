@@ -36,10 +36,10 @@ use Rattle.board_model.specs.Registry.{RegistryPart}
 use Rattle.board_model.specs.Routing.{Routing, routing_of_registry}
 use Rattle.board_model.specs.Plan.{injected, the_reply, Plan, reply, ◌>>◌}
 use Rattle.board_model.specs.Run.{Wishes, run}
-use Rattle.board_step.specs.Refusals.{is_signalled, resample_clashes, is_trigger, range_reasons, assign_reasons, attach_reasons, detach_reasons, watch_reasons, unwatch_reasons}
-use Rattle.board_step.specs.Registrations.{unless_refused, source_of, inject_count, was_last_resampler, release, deassigned, kept_holds}
-use Rattle.board_step.specs.Ticks.{tick_or_hold}
-use Rattle.board_step.specs.Calls.{number_of, io_row, plan_in_range}
+use Rattle.board_calls.specs.Refusals.{is_signalled, resample_clashes, is_trigger, range_reasons, assign_reasons, attach_reasons, detach_reasons, watch_reasons, unwatch_reasons}
+use Rattle.board_calls.specs.Registrations.{unless_refused, source_of, inject_count, was_last_resampler, release, deassigned, kept_holds}
+use Rattle.board_calls.specs.Ticks.{tick_or_hold}
+use Rattle.board_calls.specs.Calls.{number_of, io_row, plan_in_range}
 use Rattle.board_step.specs.Sound.{HasResampler, ResamplersHold}
 use Rattle.board_step.specs.Step.{would_publish, plan_on, outcome_of, with_counts, Step}
 use Rattle.board_step.specs.History.{opening}

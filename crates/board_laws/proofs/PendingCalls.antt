@@ -48,12 +48,12 @@ use Rattle.board_model.specs.Run.{run}
 use Rattle.board_raise.specs.Send.{send}
 use Rattle.board_raise.specs.Signal.{raise, inject}
 use Rattle.board_ack.specs.Acknowledge.{acknowledge_each}
-use Rattle.board_step.specs.Refusals.{write_reasons, assign_reasons, attach_reasons, detach_reasons, watch_reasons, unwatch_reasons, is_ioapic_address, is_lapic_address}
-use Rattle.board_step.specs.Registrations.{unless_refused, unless_one_of, line_set, source_of, trigger_written, count_written, write, take, inject_count, assigned, assign, was_last_resampler, release, deassigned, kept_holds, reroute}
-use Rattle.board_step.specs.Ticks.{tick_or_hold, tick, tick_mode}
-use Rattle.board_step.specs.Processors.{pins_with, end_vector, ended_reply, end_of_interrupt, pic_pin, cycle_pins, cycle_made, inta}
-use Rattle.board_step.specs.Accesses.{pair_written, pair_write, pair_gave, pair_read, resend_written, ioapic_written, ioapic_store, ioapic_load, store_effects, lapic_stored, lapic_store, lapic_load, ring_counter, rung, ring, port_out, port_in, store, load}
-use Rattle.board_step.specs.Calls.{io_row, plan_in_range}
+use Rattle.board_calls.specs.Refusals.{write_reasons, assign_reasons, attach_reasons, detach_reasons, watch_reasons, unwatch_reasons, is_ioapic_address, is_lapic_address}
+use Rattle.board_calls.specs.Registrations.{unless_refused, unless_one_of, line_set, source_of, trigger_written, count_written, write, take, inject_count, assigned, assign, was_last_resampler, release, deassigned, kept_holds, reroute}
+use Rattle.board_calls.specs.Ticks.{tick_or_hold, tick, tick_mode}
+use Rattle.board_calls.specs.Processors.{pins_with, end_vector, ended_reply, end_of_interrupt, pic_pin, cycle_pins, cycle_made, inta}
+use Rattle.board_calls.specs.Accesses.{pair_written, pair_write, pair_gave, pair_read, resend_written, ioapic_written, ioapic_store, ioapic_load, store_effects, lapic_stored, lapic_store, lapic_load, ring_counter, rung, ring, port_out, port_in, store, load}
+use Rattle.board_calls.specs.Calls.{io_row, plan_in_range}
 use Rattle.board_laws.specs.Pending.{sendings_of, is_ack}
 use Rattle.board_step.proofs.SoundCalls.{service_number, store_number}
 use Rattle.board_laws.proofs.PendingPlans.{same_requests, put_fine, Good, Safe, safe_end, safe_put, put_then, safe_bind, safe_then, safe_if}

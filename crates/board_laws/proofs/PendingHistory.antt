@@ -18,8 +18,8 @@ use Rattle.board_model.specs.Run.{Sending}
 use Rattle.board_model.proofs.Staying.{frame_stays}
 use Rattle.board_raise.specs.Send.{numbers_below}
 use Rattle.board_raise.specs.Laws.{has_request_on}
-use Rattle.board_step.specs.Refusals.{range_reasons}
-use Rattle.board_step.specs.Calls.{number_of, plan_in_range}
+use Rattle.board_calls.specs.Refusals.{range_reasons}
+use Rattle.board_calls.specs.Calls.{number_of, plan_in_range}
 use Rattle.board_step.specs.Step.{would_publish, plan_on, outcome_of, with_counts, Step}
 use Rattle.board_step.specs.History.{Leads, wishes_shown, next_board}
 use Rattle.board_laws.specs.Points.{Point, board_at, board_left, IsLegal, OfLegalHistories}

@@ -19,7 +19,7 @@ use Rattle.board_model.specs.Board.{Board, part_of, with_part}
 use Rattle.board_model.specs.Chips.{pair_of}
 use Rattle.board_model.specs.Plan.{Plan}
 use Rattle.board_model.specs.Run.{Sending, Wishes, run}
-use Rattle.board_step.specs.Processors.{cycle_made, given_reply, give, hears_pair, give_of_pair, take_nmi, next_interrupt}
+use Rattle.board_calls.specs.Processors.{cycle_made, given_reply, give, hears_pair, give_of_pair, take_nmi, next_interrupt}
 use Rattle.board_laws.specs.Pending.{sendings_of, takes_by}
 use Rattle.board_step.proofs.SoundCalls.{given_number}
 use Rattle.board_laws.proofs.PendingPlans.{has, at, Fine, after_put, put_fine, IsMade, Good}

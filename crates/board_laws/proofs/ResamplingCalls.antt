@@ -19,11 +19,11 @@ use Rattle.board_model.specs.Routing.{Routing, routing_of_registry}
 use Rattle.board_model.specs.Board.{Board}
 use Rattle.board_model.specs.Plan.{injected, the_reply, Plan, reply}
 use Rattle.board_model.specs.Run.{Wishes, run}
-use Rattle.board_step.specs.Refusals.{range_reasons, is_ioapic_address, is_lapic_address}
-use Rattle.board_step.specs.Registrations.{unless_refused, line_set, message_sent, source_of, write, take, inject_count, assign, deassign, reroute, attach, detach, watch, unwatch}
-use Rattle.board_step.specs.Processors.{end_of_interrupt, inta, next_interrupt}
-use Rattle.board_step.specs.Accesses.{pair_write, pair_read, ioapic_store, lapic_store, rung, ring, store, load}
-use Rattle.board_step.specs.Calls.{number_of, io_row, plan_in_range, plan_of}
+use Rattle.board_calls.specs.Refusals.{range_reasons, is_ioapic_address, is_lapic_address}
+use Rattle.board_calls.specs.Registrations.{unless_refused, line_set, message_sent, source_of, write, take, inject_count, assign, deassign, reroute, attach, detach, watch, unwatch}
+use Rattle.board_calls.specs.Processors.{end_of_interrupt, inta, next_interrupt}
+use Rattle.board_calls.specs.Accesses.{pair_write, pair_read, ioapic_store, lapic_store, rung, ring, store, load}
+use Rattle.board_calls.specs.Calls.{number_of, io_row, plan_in_range, plan_of}
 use Rattle.board_laws.proofs.ResamplingPlans.{AreQuiet, quiet, quiet_open, quiet_shows}
 use Rattle.board_laws.proofs.ResamplingOwed.{Pays, pays, Settles, pays_accesses}
 use Rattle.board_ack.specs.Ticks.{inject_tick}

@@ -10,7 +10,7 @@ use Rattle.irq_base.specs.declared.reply.Reply.TheVariants.{Refused}
 use Rattle.pic_8259a.specs.Pair.{is_port}
 use Rattle.ioevent_set.specs.Rows.{rung_by}
 use Rattle.board_model.specs.Board.{Board}
-use Rattle.board_step.specs.Refusals.{is_ioapic_address, is_lapic_address}
+use Rattle.board_calls.specs.Refusals.{is_ioapic_address, is_lapic_address}
 
 -- the counter that a guest write rings: that of the ioeventfd which it fits, where it is to no chip
 abbrev pub rung_on : Board → Call → Option ℕ

@@ -13,7 +13,7 @@ use Rattle.board_model.specs.Agreement.{Agrees, Exact, LacksReached}
 use Rattle.board_model.proofs.OnParts.{exact_on_parts}
 use Rattle.board_model.proofs.Words.{words_tell}
 use Rattle.board_raise.specs.declared.lacks.Lacks.{Lacks}
-use Rattle.board_step.specs.Calls.{plan_of}
+use Rattle.board_calls.specs.Calls.{plan_of}
 use Rattle.board_step.specs.Step.{would_publish, with_counts, plan_on, counted}
 use Rattle.board_step.specs.Reach.{reach}
 use Rattle.board_step.specs.Bodies.{IsOf, IsWorth, plan_by, IsStepFrom, BodiesStep, Did, LeadsFrom, DoneLeads}

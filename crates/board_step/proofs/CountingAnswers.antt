@@ -14,7 +14,7 @@ use Rattle.board_model.specs.Registry.{RegistryPart}
 use Rattle.board_model.specs.Routing.{Routing, routing_of_registry}
 use Rattle.board_raise.proofs.Counting.{Told}
 use Rattle.board_ack.proofs.Counting.{each_events}
-use Rattle.board_step.specs.Processors.{all_pins}
+use Rattle.board_calls.specs.Processors.{all_pins}
 use Rattle.board_step.specs.Step.{plan_on, outcome_of, counted}
 use Rattle.board_step.specs.Sound.{IsSound}
 use Rattle.board_step.specs.Laws.{AnswersOnce, AlwaysAnswers, StepsTellFew}

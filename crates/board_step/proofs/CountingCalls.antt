@@ -49,12 +49,12 @@ use Rattle.board_raise.specs.Signal.{raise, inject}
 use Rattle.board_raise.proofs.Counting.{Told, Tells, IsKind, tells_both, tells_more, tells_later, tells_before, done_tells, send_tells, let_go_tells, lower_tells, raise_tells, inject_tells}
 use Rattle.board_ack.specs.Acknowledge.{acknowledge_each}
 use Rattle.board_ack.proofs.Counting.{HasRegistry, each_events, tell_tells, resend_tells, inject_tick_tells, registry_kind, each_tells}
-use Rattle.board_step.specs.Refusals.{range_reasons, write_reasons, assign_reasons, attach_reasons, detach_reasons, watch_reasons, unwatch_reasons, is_ioapic_address, is_lapic_address}
-use Rattle.board_step.specs.Registrations.{unless_refused, line_set, message_sent, source_of, trigger_written, write, inject_count, assigned, assign, was_last_resampler, release, deassigned, deassign, reroute, attach, detach, watch, unwatch}
-use Rattle.board_step.specs.Ticks.{tick_or_hold, tick}
-use Rattle.board_step.specs.Processors.{pins_with, end_vector, ended_reply, end_of_interrupt, pic_pin, cycle_pins, cycle_made, inta, give, hears_pair, give_of_pair, take_nmi, next_interrupt}
-use Rattle.board_step.specs.Accesses.{pair_written, pair_write, pair_gave, pair_read, resend_written, ioapic_written, ioapic_store, ioapic_load, store_effects, lapic_stored, lapic_store, lapic_load, ring_counter, rung, ring, port_out, port_in, store, load}
-use Rattle.board_step.specs.Calls.{number_of, io_row, plan_in_range, plan_of}
+use Rattle.board_calls.specs.Refusals.{range_reasons, write_reasons, assign_reasons, attach_reasons, detach_reasons, watch_reasons, unwatch_reasons, is_ioapic_address, is_lapic_address}
+use Rattle.board_calls.specs.Registrations.{unless_refused, line_set, message_sent, source_of, trigger_written, write, inject_count, assigned, assign, was_last_resampler, release, deassigned, deassign, reroute, attach, detach, watch, unwatch}
+use Rattle.board_calls.specs.Ticks.{tick_or_hold, tick}
+use Rattle.board_calls.specs.Processors.{pins_with, end_vector, ended_reply, end_of_interrupt, pic_pin, cycle_pins, cycle_made, inta, give, hears_pair, give_of_pair, take_nmi, next_interrupt}
+use Rattle.board_calls.specs.Accesses.{pair_written, pair_write, pair_gave, pair_read, resend_written, ioapic_written, ioapic_store, ioapic_load, store_effects, lapic_stored, lapic_store, lapic_load, ring_counter, rung, ring, port_out, port_in, store, load}
+use Rattle.board_calls.specs.Calls.{number_of, io_row, plan_in_range, plan_of}
 
 -- every board
 abbrev pub Any : Board → Type 0

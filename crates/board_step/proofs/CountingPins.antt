@@ -15,7 +15,7 @@ use Rattle.pic_8259a.specs.Pair.{slave_pin, master_top, acked_pins, slave_cycle,
 use Rattle.route_table.specs.Rows.{Table, is_same, targets_of}
 use Rattle.route_table.specs.Pins.{has_pin, gsi_of}
 use Rattle.board_raise.specs.Send.{numbers_below}
-use Rattle.board_step.specs.Processors.{pic_pin, cycle_pins}
+use Rattle.board_calls.specs.Processors.{pic_pin, cycle_pins}
 use Rattle.board_step.proofs.CountingRows.{total, total_at_most, counted_at, AreApart, again_total}
 
 -- ---- a pin of a GSI is the one that its targets have

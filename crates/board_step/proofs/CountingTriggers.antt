@@ -13,7 +13,7 @@ use Rattle.irqfd_set.specs.Rows.{has_trigger}
 use Rattle.ack_notifiers.specs.Rows as watches
 use Rattle.board_model.specs.Registry.{RegistryPart}
 use Rattle.board_raise.specs.Fit.{RegistrationsFit}
-use Rattle.board_step.specs.Refusals.{is_counter, has_resample, is_signalled}
+use Rattle.board_calls.specs.Refusals.{is_counter, has_resample, is_signalled}
 use Rattle.board_step.specs.Sound.{AreDistinct}
 use Rattle.board_step.proofs.CountingRows.{total, resample_weight, resamplers}
 

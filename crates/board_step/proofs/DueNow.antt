@@ -26,7 +26,7 @@ use Rattle.board_model.proofs.Sequence.{run-bind}
 use Rattle.board_ack.specs.Acknowledge.{acknowledge_each}
 use Rattle.board_step.specs.declared.due.Due.{Due}
 use Rattle.board_step.specs.declared.due.Due.TheVariants as dues
-use Rattle.board_step.specs.Processors.{cycle_pins, cycle_made, give, given_reply, hears_pair, give_of_pair, take_nmi}
+use Rattle.board_calls.specs.Processors.{cycle_pins, cycle_made, give, given_reply, hears_pair, give_of_pair, take_nmi}
 use Rattle.board_step.specs.declared.board.Board.TheInside.{Inside}
 use Rattle.board_step.specs.History.{opening_pic}
 use Rattle.board_step.specs.Owned.{board_in, IsKept}

@@ -20,9 +20,9 @@ use Rattle.board_model.specs.Run.{Wishes, Outcome, run}
 use Rattle.board_model.specs.Agreement.{SameFrame}
 use Rattle.board_model.proofs.Sequence.{run-bind}
 use Rattle.board_model.proofs.Staying.{frame_stays}
-use Rattle.board_step.specs.Refusals.{range_reasons}
-use Rattle.board_step.specs.Registrations.{unless_refused, inject_count, assigned, was_last_resampler, release, deassigned}
-use Rattle.board_step.specs.Calls.{number_of, plan_in_range}
+use Rattle.board_calls.specs.Refusals.{range_reasons}
+use Rattle.board_calls.specs.Registrations.{unless_refused, inject_count, assigned, was_last_resampler, release, deassigned}
+use Rattle.board_calls.specs.Calls.{number_of, plan_in_range}
 use Rattle.board_step.specs.Step.{later_reasons, refusal_of, does_publish, publishes_unless, would_publish, plan_on, outcome_of, with_counts, counted, is_done, is_removed, did_publish, is_publication}
 use Rattle.board_step.specs.Reach.{reach, of_call}
 use Rattle.board_step.specs.History.{opening}

@@ -42,10 +42,10 @@ use Rattle.board_raise.proofs.ReachAlike.{heard_of, Alike, alike_lapic}
 use Rattle.board_ack.specs.Acknowledge.{acknowledge_each}
 use Rattle.board_ack.specs.ReachLaws as acks
 use Rattle.board_step.specs.Reach as table
-use Rattle.board_step.specs.Refusals.{is_ioapic_address, is_lapic_address}
-use Rattle.board_step.specs.Registrations.{unless_refused, source_of}
-use Rattle.board_step.specs.Processors.{pins_with, end_vector, pic_pin}
-use Rattle.board_step.specs.Accesses as accesses
+use Rattle.board_calls.specs.Refusals.{is_ioapic_address, is_lapic_address}
+use Rattle.board_calls.specs.Registrations.{unless_refused, source_of}
+use Rattle.board_calls.specs.Processors.{pins_with, end_vector, pic_pin}
+use Rattle.board_calls.specs.Accesses as accesses
 use Rattle.board_ack.proofs.ReachAcknowledge.{each_same, twice, resend_reach, each_reach}
 
 -- ---- what is found in a list

@@ -36,12 +36,12 @@ use Rattle.board_raise.proofs.Reaching.{or_false, sends_reach}
 use Rattle.board_raise.proofs.SignalReach.{signals_reach_the_same}
 use Rattle.board_ack.specs.ReachLaws as acks
 use Rattle.board_step.specs.Reach as table
-use Rattle.board_step.specs.Refusals.{assign_reasons, write_reasons, attach_reasons, detach_reasons, watch_reasons, unwatch_reasons, range_reasons}
-use Rattle.board_step.specs.Registrations as registrations
-use Rattle.board_step.specs.Registrations.{unless_refused, source_of, assigned, inject_count, was_last_resampler, release, deassigned}
-use Rattle.board_step.specs.Ticks.{tick_or_hold}
-use Rattle.board_step.specs.Processors.{end_vector, cycle_pins, cycle_made, hears_pair, give, give_of_pair, take_nmi}
-use Rattle.board_step.specs.Calls.{io_row, number_of, plan_in_range}
+use Rattle.board_calls.specs.Refusals.{assign_reasons, write_reasons, attach_reasons, detach_reasons, watch_reasons, unwatch_reasons, range_reasons}
+use Rattle.board_calls.specs.Registrations as registrations
+use Rattle.board_calls.specs.Registrations.{unless_refused, source_of, assigned, inject_count, was_last_resampler, release, deassigned}
+use Rattle.board_calls.specs.Ticks.{tick_or_hold}
+use Rattle.board_calls.specs.Processors.{end_vector, cycle_pins, cycle_made, hears_pair, give, give_of_pair, take_nmi}
+use Rattle.board_calls.specs.Calls.{io_row, number_of, plan_in_range}
 use Rattle.board_step.specs.Laws.{ReachIsTable}
 use Rattle.board_ack.proofs.ReachAcknowledge.{gsi_same, twice, inject_tick_reach}
 use Rattle.board_step.proofs.ReachAccesses.{dropped, replied, refused_reach, within_one, inject_reach, answered_reach, port_out_reach, port_in_reach, ended_reach, store_reach, load_reach}

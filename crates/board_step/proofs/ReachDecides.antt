@@ -15,7 +15,7 @@ use Rattle.board_model.specs.Registry.{RegistryPart}
 use Rattle.board_model.specs.Laws.{PublishTheSame}
 use Rattle.board_model.proofs.Words.{published_decides}
 use Rattle.board_model.proofs.Tables.{published_decides_the_table}
-use Rattle.board_step.specs.Calls.{plan_of}
+use Rattle.board_calls.specs.Calls.{plan_of}
 use Rattle.board_step.specs.Step.{would_publish, with_counts, plan_on, outcome_of, counted}
 use Rattle.board_step.specs.Sound.{IsSound}
 use Rattle.board_step.specs.Laws.{StaysOutsideReach, SamePart, AgreesForCall, DependsOnReach}

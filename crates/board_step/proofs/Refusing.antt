@@ -16,9 +16,9 @@ use Rattle.board_model.specs.Routing.{trigger_of, routing_of_registry}
 use Rattle.board_model.specs.Plan.{Plan}
 use Rattle.board_model.specs.Run.{Wishes, Outcome, run}
 use Rattle.board_raise.proofs.Manner.{Manner, some_refusal, Keeps, accepts}
-use Rattle.board_step.specs.Refusals.{range_reasons, write_reasons}
-use Rattle.board_step.specs.Registrations.{unless_refused, write}
-use Rattle.board_step.specs.Calls.{number_of, plan_in_range}
+use Rattle.board_calls.specs.Refusals.{range_reasons, write_reasons}
+use Rattle.board_calls.specs.Registrations.{unless_refused, write}
+use Rattle.board_calls.specs.Calls.{number_of, plan_in_range}
 use Rattle.board_step.specs.Step.{later_reasons, refusal_of, plan_on, outcome_of, Step}
 use Rattle.board_step.specs.Laws.{RefusesRightly}
 use Rattle.board_step.proofs.CallManner.{replies_in, writes_in, refuses_in, ends, write_trigger_keeps, assigned_keeps, in_range_keeps, or_true}

@@ -24,7 +24,7 @@ use Rattle.board_model.specs.Routing.{Routing}
 use Rattle.board_model.specs.Chips.{ioapic_of}
 use Rattle.board_model.specs.Statuses.{TargetAnswer}
 use Rattle.board_model.specs.Plan.{About}
-use Rattle.board_step.specs.Registrations.{source_of}
+use Rattle.board_calls.specs.Registrations.{source_of}
 use Rattle.board_step.proofs.SoundCounts.{counts_signalled, counts_taken, counts_written}
 use Rattle.board_step.proofs.SoundPlans.{Fine, Each, each_with}
 use Rattle.board_step.proofs.SoundSends.{accepted_number, MayHold}
@@ -60,7 +60,7 @@ use Rattle.tick_reinject.specs.Ticks.{in_mode}
 use Rattle.route_table.proofs.Sound.{no_reason}
 use Rattle.board_model.specs.Chips.{with_pair}
 use Rattle.board_ack.specs.Ticks.{inject_tick}
-use Rattle.board_step.specs.Calls.{plan_in_range}
+use Rattle.board_calls.specs.Calls.{plan_in_range}
 use Rattle.board_step.proofs.SoundCounts.{NoTriggers}
 use Rattle.board_step.proofs.WalkCalls.{is_plain, plain_holds}
 

@@ -32,8 +32,8 @@ use Rattle.board_model.specs.Board.{Board}
 use Rattle.board_model.specs.Plan.{injected, Plan, reply, ◌>>◌}
 use Rattle.board_model.specs.Run.{Wishes, run}
 use Rattle.board_raise.specs.Fit.{IrqfdFits, WatchFits}
-use Rattle.board_step.specs.Refusals.{is_trigger, is_counter, has_resample, is_signalled, resample_clashes, assign_reasons, attach_reasons, detach_reasons, watch_reasons, unwatch_reasons}
-use Rattle.board_step.specs.Registrations.{unless_refused, source_of, inject_count, assign, attach, detach, watch, unwatch}
+use Rattle.board_calls.specs.Refusals.{is_trigger, is_counter, has_resample, is_signalled, resample_clashes, assign_reasons, attach_reasons, detach_reasons, watch_reasons, unwatch_reasons}
+use Rattle.board_calls.specs.Registrations.{unless_refused, source_of, inject_count, assign, attach, detach, watch, unwatch}
 use Rattle.board_step.specs.Sound.{HasResampler}
 use Rattle.board_step.proofs.SoundCounts.{CountsFine, counts_taken}
 use Rattle.board_step.proofs.SoundPlans.{Each}

@@ -4,7 +4,7 @@ use Rattle.std.specs.Prelude.{IsTrue, ◌⊎◌, slice_get, slice_set, slice_ind
 use Rattle.std.proofs.lemmas.List.Elements.{All-set}
 use Rattle.irq_base.specs.Counts.{signalled, signalled_all}
 use Rattle.board_model.specs.Registry.{RegistryPart}
-use Rattle.board_step.specs.Refusals.{is_trigger}
+use Rattle.board_calls.specs.Refusals.{is_trigger}
 
 -- so many counts, none past the greatest, and that of a trigger is 0
 pub record CountsFine (r : RegistryPart) (many : ℕ) (counts : List ℕ) : Type 0 where

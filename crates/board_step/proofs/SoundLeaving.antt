@@ -30,8 +30,8 @@ use Rattle.board_model.specs.Run.{Wishes, run}
 use Rattle.board_raise.specs.Fit.{IrqfdFits}
 use Rattle.board_raise.specs.Signal.{let_go_pic, let_go_ioapic}
 use Rattle.board_step.specs.Laws.{PayloadFits}
-use Rattle.board_step.specs.Refusals.{is_trigger, has_resample, is_signalled}
-use Rattle.board_step.specs.Registrations.{was_last_resampler, release, deassigned, deassign, is_same_gsi, keeps_gsi, kept_holds, reroute}
+use Rattle.board_calls.specs.Refusals.{is_trigger, has_resample, is_signalled}
+use Rattle.board_calls.specs.Registrations.{was_last_resampler, release, deassigned, deassign, is_same_gsi, keeps_gsi, kept_holds, reroute}
 use Rattle.board_step.specs.Sound.{HasResampler, ResamplersHold, HoldsStand}
 use Rattle.board_step.proofs.SoundHolds.{was_held, not_removed, retained}
 use Rattle.board_step.proofs.SoundPlans.{Each}

@@ -29,7 +29,7 @@ use Rattle.board_model.specs.Registry.{RegistryPart}
 use Rattle.board_model.specs.Routing.{trigger_of}
 use Rattle.board_model.specs.Published.{IsSoundTable, IsSoundRegistry}
 use Rattle.board_raise.specs.Fit.{RegistrationsFit}
-use Rattle.board_step.specs.Refusals.{is_trigger, is_counter, has_resample, is_signalled}
+use Rattle.board_calls.specs.Refusals.{is_trigger, is_counter, has_resample, is_signalled}
 use Rattle.board_step.specs.Sound.{HasResampler, AreDistinct}
 use Rattle.board_step.proofs.SoundCounts.{NoTriggers}
 use Rattle.board_step.proofs.SoundSends.{MayHold}

@@ -24,9 +24,9 @@ use Rattle.board_step.specs.Laws.{IsTyped, StepsKeepSound, HistoriesKeepSound}
 use Rattle.board_step.specs.History.{opening, Leads}
 use Rattle.board_step.proofs.SoundOpening.{opening_is_sound}
 use Rattle.std.proofs.lemmas.List.Elements.{All-head, All-tail}
-use Rattle.board_step.specs.Refusals.{range_reasons, bad_gsi, bad_counter, bad_resample, bad_ioevent, is_chip_address}
-use Rattle.board_step.specs.Ticks.{tick_or_hold}
-use Rattle.board_step.specs.Calls.{number_of, io_row, plan_in_range}
+use Rattle.board_calls.specs.Refusals.{range_reasons, bad_gsi, bad_counter, bad_resample, bad_ioevent, is_chip_address}
+use Rattle.board_calls.specs.Ticks.{tick_or_hold}
+use Rattle.board_calls.specs.Calls.{number_of, io_row, plan_in_range}
 use Rattle.board_step.specs.Step.{would_publish, plan_on, with_counts}
 use Rattle.board_step.specs.Sound.{IsSound}
 use Rattle.board_step.proofs.SoundPlans.{Each, each_with}

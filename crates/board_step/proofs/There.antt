@@ -40,9 +40,9 @@ use Rattle.board_raise.specs.Send.{numbers_below, only, reached_by_destination, 
 use Rattle.board_raise.specs.ReachLaws.{is_of_one, of_message, of_pin, of_answer, of_other, of_raise, of_fall}
 use Rattle.board_ack.specs.Acknowledge.{tell_concerned, end_level, acknowledge}
 use Rattle.board_ack.specs.ReachLaws.{board_by, of_gsi, of_marked, of_resend, of_level, of_tick, of_acknowledge, of_acknowledge_each}
-use Rattle.board_step.specs.Refusals.{is_ioapic_address, is_lapic_address, range_reasons}
-use Rattle.board_step.specs.Processors.{pins_with, pic_pin, cycle_pins, hears_pair}
-use Rattle.board_step.specs.Calls.{number_of}
+use Rattle.board_calls.specs.Refusals.{is_ioapic_address, is_lapic_address, range_reasons}
+use Rattle.board_calls.specs.Processors.{pins_with, pic_pin, cycle_pins, hears_pair}
+use Rattle.board_calls.specs.Calls.{number_of}
 use Rattle.board_step.specs.Reach.{of_end, of_counter, of_write, does_inject, of_pair, of_written, of_effect, of_rung, of_ring, of_store, of_load, of_cycle, of_ack, of_call, reach}
 use Rattle.board_step.specs.Publications.{ReachIsThere}
 

@@ -51,12 +51,12 @@ use Rattle.board_raise.specs.Send.{send}
 use Rattle.board_raise.specs.Signal.{raise, lowered_status}
 use Rattle.board_ack.specs.Ticks.{inject_tick}
 use Rattle.board_ack.specs.Acknowledge.{resend, acknowledge_each}
-use Rattle.board_step.specs.Refusals.{write_reasons, assign_reasons, attach_reasons, detach_reasons, watch_reasons, unwatch_reasons, is_ioapic_address, is_lapic_address}
-use Rattle.board_step.specs.Registrations.{count_written, unless_refused, line_set, message_sent, source_of, trigger_written, write, read_reply, take, inject_count, assign, was_last_resampler, release, deassigned, deassign, kept_holds, reroute, attach, detach, watch, unwatch}
-use Rattle.board_step.specs.Ticks.{tick_or_hold, tick_mode}
-use Rattle.board_step.specs.Processors.{pins_with, end_vector, ended_reply, end_of_interrupt, pic_pin, cycle_pins, cycle_made, inta, given_reply, give, hears_pair, give_of_pair, take_nmi, next_interrupt}
-use Rattle.board_step.specs.Accesses.{pair_written, pair_write, pair_gave, pair_read, resend_written, ioapic_written, ioapic_store, ioapic_load, store_effects, lapic_stored, lapic_store, lapic_load, ring_counter, rung, ring, port_out, port_in, store, load}
-use Rattle.board_step.specs.Calls.{plan_in_range}
+use Rattle.board_calls.specs.Refusals.{write_reasons, assign_reasons, attach_reasons, detach_reasons, watch_reasons, unwatch_reasons, is_ioapic_address, is_lapic_address}
+use Rattle.board_calls.specs.Registrations.{count_written, unless_refused, line_set, message_sent, source_of, trigger_written, write, read_reply, take, inject_count, assign, was_last_resampler, release, deassigned, deassign, kept_holds, reroute, attach, detach, watch, unwatch}
+use Rattle.board_calls.specs.Ticks.{tick_or_hold, tick_mode}
+use Rattle.board_calls.specs.Processors.{pins_with, end_vector, ended_reply, end_of_interrupt, pic_pin, cycle_pins, cycle_made, inta, given_reply, give, hears_pair, give_of_pair, take_nmi, next_interrupt}
+use Rattle.board_calls.specs.Accesses.{pair_written, pair_write, pair_gave, pair_read, resend_written, ioapic_written, ioapic_store, ioapic_load, store_effects, lapic_stored, lapic_store, lapic_load, ring_counter, rung, ring, port_out, port_in, store, load}
+use Rattle.board_calls.specs.Calls.{plan_in_range}
 use Rattle.board_step.proofs.Walk.{Walk, Holds, ended, bound, after, either, either_at, looked, written, changed}
 use Rattle.board_step.proofs.WalkSignals.{Shows, Signals, MayRaise, let_go_holds, lower_holds, raise_holds, inject_only}
 

@@ -33,8 +33,8 @@ use Rattle.board_raise.specs.Send.{show}
 use Rattle.board_raise.specs.Signal.{pic_let_go, ioapic_let_go}
 use Rattle.board_ack.specs.Ticks.{inject_tick}
 use Rattle.board_ack.specs.Acknowledge.{say_each, signal_each}
-use Rattle.board_step.specs.Refusals.{write_reasons}
-use Rattle.board_step.specs.Registrations.{source_of}
+use Rattle.board_calls.specs.Refusals.{write_reasons}
+use Rattle.board_calls.specs.Registrations.{source_of}
 use Rattle.board_step.proofs.Walk.{Walk, Holds, Seen, kept_by, after, changed}
 use Rattle.board_step.proofs.WalkSignals.{Shows, Signals, MayRaise, send_holds}
 use Rattle.board_step.proofs.WalkAcks.{Tells, Ends, resend_holds, end_level_holds, acks_hold, inject_tick_holds}

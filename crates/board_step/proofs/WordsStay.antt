@@ -20,9 +20,9 @@ use Rattle.board_model.specs.Plan.{Plan, set as put_part, reply, ◌>>◌}
 use Rattle.board_model.specs.Run.{Wishes, run}
 use Rattle.board_model.proofs.Staying.{frame_stays}
 use Rattle.board_raise.proofs.Manner.{Manner, registry_stays}
-use Rattle.board_step.specs.Refusals.{range_reasons, attach_reasons, detach_reasons}
-use Rattle.board_step.specs.Registrations.{unless_refused, deassigned}
-use Rattle.board_step.specs.Calls.{number_of, io_row, plan_in_range}
+use Rattle.board_calls.specs.Refusals.{range_reasons, attach_reasons, detach_reasons}
+use Rattle.board_calls.specs.Registrations.{unless_refused, deassigned}
+use Rattle.board_calls.specs.Calls.{number_of, io_row, plan_in_range}
 use Rattle.board_step.specs.Step.{refusal_of, does_publish, publishes_unless, would_publish, plan_on, outcome_of, with_counts, Step}
 use Rattle.board_step.proofs.CallManner.{replies_in, writes_in, refuses_in, call_keeps, or_true}
 use Rattle.board_step.proofs.Refusing.{refuses_first}

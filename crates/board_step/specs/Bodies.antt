@@ -16,7 +16,7 @@ use Rattle.board_model.specs.Plan.{Plan}
 use Rattle.board_model.specs.Run.{Wishes, Log, OnParts, gives, lacks, run_on}
 use Rattle.board_model.specs.Agreement.{Agrees, LacksReached, HoldsReached}
 use Rattle.board_raise.specs.declared.lacks.Lacks.{Lacks}
-use Rattle.board_step.specs.Calls.{plan_of}
+use Rattle.board_calls.specs.Calls.{plan_of}
 use Rattle.board_step.specs.Step.{spent_of, Step}
 use Rattle.board_step.specs.Reach.{reach}
 

@@ -13,7 +13,7 @@ use Rattle.board_model.specs.Board.{Board}
 use Rattle.board_model.specs.Run.{Wishes, run}
 use Rattle.board_step.specs.declared.due.Due.{Due}
 use Rattle.board_step.specs.declared.due.Due.TheVariants as dues
-use Rattle.board_step.specs.Processors.{hears_pair}
+use Rattle.board_calls.specs.Processors.{hears_pair}
 use Rattle.board_step.specs.Step.{plan_on}
 
 -- what the local APIC would give

@@ -1,9 +1,3 @@
-pub mod Refusals
-pub mod Registrations
-pub mod Ticks
-pub mod Processors
-pub mod Accesses
-pub mod Calls
 pub mod Step
 pub mod Reach
 pub mod Publications

@@ -29,10 +29,10 @@ use Rattle.board_model.specs.Chips.{pair_of, IoapicPart, ioapic_of, with_ioapic}
 use Rattle.board_model.specs.Routing.{Routing, routing_of_registry}
 use Rattle.board_raise.specs.ReachLaws.{of_message, of_fall}
 use Rattle.board_ack.specs.ReachLaws.{of_gsi, of_resend, of_acknowledge_each}
-use Rattle.board_step.specs.Refusals.{is_ioapic_address, is_lapic_address, range_reasons, assign_reasons}
-use Rattle.board_step.specs.Registrations.{was_last_resampler}
-use Rattle.board_step.specs.Processors.{pins_with, pic_pin, cycle_pins, hears_pair}
-use Rattle.board_step.specs.Calls.{number_of}
+use Rattle.board_calls.specs.Refusals.{is_ioapic_address, is_lapic_address, range_reasons, assign_reasons}
+use Rattle.board_calls.specs.Registrations.{was_last_resampler}
+use Rattle.board_calls.specs.Processors.{pins_with, pic_pin, cycle_pins, hears_pair}
+use Rattle.board_calls.specs.Calls.{number_of}
 
 module _ (routing : Routing) (shape : Shape) where
   -- ---- an end of interrupt

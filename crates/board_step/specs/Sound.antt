@@ -17,7 +17,7 @@ use Rattle.board_model.specs.Registry.{RegistryPart}
 use Rattle.board_model.specs.Published.{IsSoundRegistry}
 use Rattle.board_model.specs.Board.{Board, part_of}
 use Rattle.board_raise.specs.Fit.{InLimits, RegistrationsFit}
-use Rattle.board_step.specs.Refusals.{is_trigger, is_signalled}
+use Rattle.board_calls.specs.Refusals.{is_trigger, is_signalled}
 
 -- irqfds have different triggers, none of which is signalled; notifiers are different and at most 256; no ioeventfds collide,
 -- and they are at most 256

@@ -17,8 +17,8 @@ use Rattle.board_model.specs.Board.{Board}
 use Rattle.board_model.specs.Routing.{routing_of_registry}
 use Rattle.board_model.specs.Plan.{Plan}
 use Rattle.board_model.specs.Run.{Wishes, Outcome, run}
-use Rattle.board_step.specs.Refusals.{range_reasons, write_reasons, assign_reasons, attach_reasons, detach_reasons, watch_reasons, unwatch_reasons}
-use Rattle.board_step.specs.Calls.{io_row, plan_of}
+use Rattle.board_calls.specs.Refusals.{range_reasons, write_reasons, assign_reasons, attach_reasons, detach_reasons, watch_reasons, unwatch_reasons}
+use Rattle.board_calls.specs.Calls.{io_row, plan_of}
 
 -- ---- refusals
 

@@ -3,7 +3,7 @@ ghost use Rattle.std.specs.Prelude.{◌≡◌, ◌<◌, length, option_map};
 ghost use Rattle.board_raise.specs.declared.parts.PicPart.{PicPart};
 ghost use Rattle.board_raise.specs.OnRow.{apic_in};
 ghost use Rattle.board_step.specs.Due.{due_by, due_in};
-ghost use Rattle.board_step.specs.Processors.{lets_through};
+ghost use Rattle.board_calls.specs.Processors.{lets_through};
 
 use board_raise::Parts;
 use lapic::Lapic;

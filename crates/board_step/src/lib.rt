@@ -1,8 +1,8 @@
-//! What each call of a board does, as the one-thread board does it in one step, and what a legal history of calls is.
+//! The one-thread board: one call is one step, and what a legal history of calls is.
 //!
-//! Reading order of the definitions: `Refusals` (why a call is refused), `Registrations`, `Ticks`, `Processors` and `Accesses`
-//! (what each call does), `Calls` (all of them), `Step` (one call is one step), `Reach`, `Sound`, `History`, and then what holds
-//! of every step: `Laws`, `Publications`; what a body is worth that runs a call on parts in hand: `Bodies`; the board of all
+//! What each call does stands in `board_calls`. Reading order of the definitions: `Step` (one call is one step), `Reach`, `Sound`,
+//! `History`, and then what holds of every step: `Laws`, `Publications`; what a body is worth that runs a call on parts in hand:
+//! `Bodies`; the board of all
 //! parts: `Whole`, `Opening`, `Owned`, `Due`. What holds along every legal history stands in `board_laws`.
 //!
 //! `Board` is the board on one thread. The functions without a body are laws: the contract of each is what holds.

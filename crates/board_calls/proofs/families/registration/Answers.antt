@@ -1,7 +1,7 @@
 use Rattle.board_model.specs.Published.{routing_of_words}
 use Rattle.board_model.specs.Run.{run_on}
 use Rattle.board_raise.specs.InHand.{parts_of}
-use Rattle.board_step.specs.Calls.{plan_in_range}
+use Rattle.board_calls.specs.Calls.{plan_in_range}
 use Rattle.board_calls.proofs.Room.{quiet_tells}
 use Rattle.board_calls.proofs.families.registration.Goals as goal
 

@@ -8,7 +8,7 @@ use Rattle.board_model.specs.Run.{run_on}
 use Rattle.board_raise.specs.InHand.{parts_of}
 use Rattle.board_raise.specs.Shown.{StopsAt}
 use Rattle.board_raise.proofs.Composing.{stops_first}
-use Rattle.board_step.specs.Registrations.{inject_count, assign}
+use Rattle.board_calls.specs.Registrations.{inject_count, assign}
 use Rattle.board_calls.specs.Pieces.{adding}
 use Rattle.board_calls.specs.Told.{TellsOn}
 use Rattle.board_calls.proofs.Composed.{said, does_from, told_then_said, second_ends, second_lacks, first_lacks}

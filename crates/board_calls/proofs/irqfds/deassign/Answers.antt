@@ -7,7 +7,7 @@ use Rattle.board_model.specs.Run.{run_on}
 use Rattle.board_raise.specs.InHand.{parts_of}
 use Rattle.board_raise.specs.Shown.{EndsWith, StopsAt}
 use Rattle.board_raise.proofs.Composing.{then_ends, stops_first}
-use Rattle.board_step.specs.Registrations.{release, deassign}
+use Rattle.board_calls.specs.Registrations.{release, deassign}
 use Rattle.board_calls.specs.Pieces.{removing}
 use Rattle.board_calls.proofs.Composed.{said, does_from, second_replies, second_lacks, first_lacks}
 use Rattle.board_calls.proofs.Steps.{after_removal, deassign_steps}

@@ -2,7 +2,7 @@ use Rattle.std.proofs.Common.{ap, sym, ◌∙◌, [], ◌∷◌}
 use Rattle.std.specs.Option.{option_or}
 use Rattle.irq_base.specs.Refusals.{first_of}
 use Rattle.irq_base.specs.declared.refusal.Refusal.TheVariants.{ChipAddress}
-use Rattle.board_step.specs.Refusals.{bad_ioevent, bad_counter, is_chip_address, range_reasons}
+use Rattle.board_calls.specs.Refusals.{bad_ioevent, bad_counter, is_chip_address, range_reasons}
 use Rattle.board_calls.proofs.Ranges.{or_reasons, or_two_reasons}
 use Rattle.board_calls.proofs.range.refused_by_range.Goals as goal
 

@@ -7,7 +7,7 @@ use Rattle.board_model.specs.Published.{routing_of_words}
 use Rattle.board_raise.specs.InHand.{parts_of}
 use Rattle.board_raise.specs.Shown.{in_reply, without_sets}
 use Rattle.board_raise.specs.Signal.{inject}
-use Rattle.board_step.specs.Registrations.{source_of}
+use Rattle.board_calls.specs.Registrations.{source_of}
 use Rattle.board_calls.proofs.Composed.{over, replied_then, lacks_at_once}
 use Rattle.board_calls.proofs.signals.write_trigger.Goals as goal
 

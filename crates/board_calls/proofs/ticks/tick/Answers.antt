@@ -5,7 +5,7 @@ use Rattle.board_model.specs.Plan.{the_reply}
 use Rattle.board_model.specs.Published.{routing_of_words}
 use Rattle.board_raise.specs.InHand.{parts_of}
 use Rattle.board_ack.specs.Ticks.{inject_tick}
-use Rattle.board_step.specs.Ticks.{tick}
+use Rattle.board_calls.specs.Ticks.{tick}
 use Rattle.board_calls.specs.Done.{Replies}
 use Rattle.board_calls.specs.Pieces.{falling}
 use Rattle.board_calls.proofs.Composed.{said, does_from, second_replies, second_does, first_lacks}

@@ -10,11 +10,11 @@ use Rattle.std.specs.declared.option.Option.{Option}
 use Rattle.ioevent_set.specs.declared.row.IoRow.{IoRow}
 use Rattle.board_model.specs.Routing.{Routing}
 use Rattle.board_model.specs.Plan.{Plan}
-use Rattle.board_step.specs.Refusals.{range_reasons}
-use Rattle.board_step.specs.Registrations.{unless_one_of, line_set, message_sent, write, take, assign, deassign, reroute, attach, detach, watch, unwatch}
-use Rattle.board_step.specs.Ticks.{tick, tick_mode}
-use Rattle.board_step.specs.Processors.{end_of_interrupt, inta, next_interrupt}
-use Rattle.board_step.specs.Accesses.{port_out, port_in, store, load}
+use Rattle.board_calls.specs.Refusals.{range_reasons}
+use Rattle.board_calls.specs.Registrations.{unless_one_of, line_set, message_sent, write, take, assign, deassign, reroute, attach, detach, watch, unwatch}
+use Rattle.board_calls.specs.Ticks.{tick, tick_mode}
+use Rattle.board_calls.specs.Processors.{end_of_interrupt, inta, next_interrupt}
+use Rattle.board_calls.specs.Accesses.{port_out, port_in, store, load}
 
 -- the number of the caller; calls that read it come from processors alone
 abbrev pub number_of : Caller → ℕ

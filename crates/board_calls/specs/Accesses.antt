@@ -24,9 +24,9 @@ use Rattle.board_model.specs.Plan.{injected, ipi, Plan, done, see, set as put_pa
 use Rattle.board_raise.specs.Send.{send}
 use Rattle.board_raise.specs.Signal.{inject}
 use Rattle.board_ack.specs.Acknowledge.{resend, acknowledge_each}
-use Rattle.board_step.specs.Refusals.{is_ioapic_address, is_lapic_address}
-use Rattle.board_step.specs.Registrations.{source_of}
-use Rattle.board_step.specs.Processors.{pic_pin, end_vector}
+use Rattle.board_calls.specs.Refusals.{is_ioapic_address, is_lapic_address}
+use Rattle.board_calls.specs.Registrations.{source_of}
+use Rattle.board_calls.specs.Processors.{pic_pin, end_vector}
 
 -- ---- the 8259A pair
 

@@ -31,7 +31,7 @@ use Rattle.board_model.specs.Chips.{PicPart, IoapicPart}
 use Rattle.board_model.specs.Plan.{injected, the_reply, Plan, done, see, set as put_part, change, reply, ◌>>=◌, ◌>>◌}
 use Rattle.board_raise.specs.Send.{send}
 use Rattle.board_raise.specs.Signal.{raise, lower, inject, let_go}
-use Rattle.board_step.specs.Refusals.{write_reasons, assign_reasons, attach_reasons, detach_reasons, watch_reasons, unwatch_reasons}
+use Rattle.board_calls.specs.Refusals.{write_reasons, assign_reasons, attach_reasons, detach_reasons, watch_reasons, unwatch_reasons}
 
 -- a call that is refused answers why, and does nothing else
 abbrev pub unless_refused : Option Refusal → Plan (Unit {0}) → Plan (Unit {0})
