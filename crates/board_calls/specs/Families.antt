@@ -1,7 +1,7 @@
 -- The families of calls that have one function each.
 use Rattle.std.specs.Prelude.{Bool, true, false}
 use Rattle.irq_base.specs.declared.call.Call.{Call}
-use Rattle.irq_base.specs.declared.call.Call.TheVariants.{Line, Msi, Write, Take, Assign, Deassign, Reroute, Attach, Detach, Watch, Unwatch, Tick, TickMode}
+use Rattle.irq_base.specs.declared.call.Call.TheVariants.{Line, Msi, Write, Take, Assign, Deassign, Reroute, Attach, Detach, Watch, Unwatch, Tick, TickMode, PortOut, PortIn, Store, Load, Ack, Inta, Eoi}
 
 -- lines, messages and counters
 abbrev pub is_of_device : Call → Bool
@@ -32,3 +32,18 @@ abbrev pub is_of_ticks : Call → Bool
 is_of_ticks Tick = true
 is_of_ticks (TickMode reinject) = true
 is_of_ticks _ = false
+
+-- accesses of the guest
+abbrev pub is_access : Call → Bool
+is_access (PortOut port len value) = true
+is_access (PortIn port len) = true
+is_access (Store address len value) = true
+is_access (Load address len) = true
+is_access _ = false
+
+-- what a processor asks of its interrupts
+abbrev pub is_of_interrupts : Call → Bool
+is_of_interrupts Ack = true
+is_of_interrupts Inta = true
+is_of_interrupts Eoi = true
+is_of_interrupts _ = false

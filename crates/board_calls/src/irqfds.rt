@@ -109,7 +109,7 @@ fn add_to(
 }
 
 // Whether the counter is a resample counter or that of an acknowledge notifier.
-fn is_signalled(registry: &RegistryPart, counter: u16) -> bool
+pub(crate) fn is_signalled(registry: &RegistryPart, counter: u16) -> bool
     ensures { result ≡ is_signalled (registry_of registry.now) counter }
 {
     is_resampled(registry.irqfds.rows(), counter) || registry.watches.has_counter(counter)
@@ -133,7 +133,7 @@ fn is_counter(counter: u16, other: Option<u16>) -> bool
 }
 
 // Whether a resample counter, if there is one, is this trigger or that of a living irqfd.
-fn resample_clashes(irqfds: &Irqfds, trigger: u16, resample: Option<u16>) -> bool
+pub(crate) fn resample_clashes(irqfds: &Irqfds, trigger: u16, resample: Option<u16>) -> bool
     ensures { result ≡ clashes irqfds.now trigger resample }
 {
     match resample {

@@ -9,12 +9,16 @@
 
 mod counters;
 mod families;
+mod guest;
 mod irqfds;
 mod range;
+mod refusals;
 mod registrations;
 mod reroute;
 mod signals;
 mod ticks;
 
 pub use families::{device_call, registration, tick_call};
+pub use guest::{guest_access, processor_call};
 pub use range::refused_by_range;
+pub use refusals::{assign_refusal, unwatch_refusal, watch_refusal};

@@ -1,10 +1,12 @@
 -- A board on one thread as a rig: its parts, the words that it published, and what it is to choose next.
-use Rattle.std.specs.Prelude.{ℕ, List, [], ◌∷◌, Some, None}
+use Rattle.std.specs.Prelude.{ℕ, ◌<◌, All, List, [], ◌∷◌, Some, None}
 use Rattle.std.specs.declared.option.Option.{Option}
 use Rattle.irq_bits.specs.Members.{Numbers}
-use Rattle.board_model.specs.Published.{published}
+use Rattle.ack_notifiers.specs.declared.watches.Watch.{Watch}
+use Rattle.board_model.specs.Published.{published, IsSoundIrqfd}
 use Rattle.board_model.specs.Run.{Wishes}
 use Rattle.board_raise.specs.declared.parts.Parts.{Parts}
+use Rattle.board_raise.specs.declared.parts.RegistryPart.{RegistryPart}
 use Rattle.board_raise.specs.declared.words.Words.{Words}
 use Rattle.board_raise.specs.declared.board_rig.BoardRig.{BoardRig}
 use Rattle.board_raise.specs.InHand.{registry_of}
@@ -21,3 +23,8 @@ words_in w = published (registry_of w.registry) w.tick
 abbrev pub wishes_of : Option Numbers → Wishes
 wishes_of None = []
 wishes_of (Some wish) = wish ∷ []
+
+-- irqfds and notifiers name triggers and GSIs that there can be
+pub record NamesWhatIsThere (registry : RegistryPart) : Type 0 where
+  pub irqfds : All IsSoundIrqfd registry.irqfds
+  pub watches : All (λ (row : Watch). row.gsi < 4096) registry.watches

@@ -1,7 +1,9 @@
 //! A rig over all parts of a board on one thread.
-ghost use Rattle.std.specs.Prelude.{◌≡◌, is_some, Some, None};
+ghost use Rattle.std.specs.Prelude.{◌≡◌, ◌<◌, is_some, Some, None, IfSome};
 ghost use Rattle.board_model.specs.Hand.{part_in};
-ghost use Rattle.board_raise.specs.InHand.{parts_of};
+ghost use Rattle.board_model.specs.Published.{published};
+ghost use Rattle.board_raise.specs.BoardRig.{NamesWhatIsThere, words_in};
+ghost use Rattle.board_raise.specs.InHand.{parts_of, registry_of};
 ghost use Rattle.board_raise.specs.OnRow.{apic_in};
 
 use crate::parts::Parts;
@@ -65,6 +67,19 @@ impl BoardRig {
         ensures wish { self.new.wish ≡ Some wish }
     {
         self.wish = Some(wish);
+    }
+
+    /// From now on the words are those of the registry in hand, if it is in hand, with ticks on that GSI. It takes no memory.
+    pub fn publish(&mut self, tick: u16)
+        requires names { IfSome self.old.parts.registry NamesWhatIsThere }
+        requires tick { tick < 4096 }
+        ensures parts { self.new.parts ≡ self.old.parts }
+        ensures words { IfSome self.old.parts.registry (λ registry. words_in self.new.words ≡ published (registry_of registry) tick) }
+        ensures wish { self.new.wish ≡ self.old.wish }
+    {
+        if let Some(registry) = &self.parts.registry {
+            self.words.publish(registry, tick);
+        }
     }
 
     /// The parts as they are now.

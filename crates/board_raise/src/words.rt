@@ -40,15 +40,17 @@ impl Words {
         Words { registry, tick }
     }
 
-    /// From now on the words are those of this registry. It takes no memory.
-    pub fn publish(&mut self, registry: &RegistryPart)
+    /// From now on the words are those of this registry, with ticks on that GSI. It takes no memory.
+    pub fn publish(&mut self, registry: &RegistryPart, tick: u16)
         requires irqfds { All IsSoundIrqfd registry.now.irqfds }
         requires watches { All (λ row. row.gsi < 4096) registry.now.watches }
+        requires tick { tick < 4096 }
         ensures registry { self.new.registry ≡ registry.now }
-        ensures tick { self.new.tick ≡ self.old.tick }
+        ensures tick { self.new.tick ≡ tick }
     {
         registry.table.keeps_the_rules();
         self.registry.copy_from(registry);
+        self.tick = tick;
     }
 
     /// Where a GSI goes.

@@ -4,6 +4,12 @@
 #[cfg(test)]
 mod boards;
 #[cfg(test)]
+mod interrupts;
+#[cfg(test)]
+mod registrations;
+#[cfg(test)]
 mod rig;
 #[cfg(test)]
 mod sendings;
+#[cfg(test)]
+mod table;

@@ -1,5 +1,7 @@
 -- What a body left of all parts of a board in code is the next board, and it keeps what a board keeps.
-use Rattle.std.proofs.Common.{◌≡◌, ℕ, ◌+◌, Bool, false, if◌then◌else◌, List, length, Some, option_map, refl, sym, ap, ◌∙◌, subst}
+use Rattle.std.specs.Prelude.{IfSome}
+use Rattle.std.specs.declared.option.Option.{Option}
+use Rattle.std.proofs.Common.{◌≡◌, ℕ, ◌+◌, Bool, false, if◌then◌else◌, List, length, Some, None, option_map, refl, sym, ap, ◌∙◌, subst}
 use Rattle.irq_base.specs.declared.call.Call.{Call}
 use Rattle.irq_base.specs.declared.call.Caller.{Caller}
 use Rattle.irq_base.specs.declared.event.Event.{Event}
@@ -84,20 +86,24 @@ module _ (a : Inside) (kept : IsKept a) (caller : Caller) (call : Call) (reply :
   words_left never same = same ∙ kept.words ∙ sym (words_stay (board_in a) entry from.next step never)
 
   -- words that were published anew are those of the registry
-  pub words_anew : (registry : RegistryPart) → rig.parts.registry ≡ Some registry → rig.words.registry ≡ registry → rig.words.tick ≡ a.shape.tick → words_in rig.words ≡ published from.next.registry from.next.shape.tick
-  words_anew registry there same tick =
-      let one : registry_of registry ≡ from.next.registry = some_is (registry_of registry) from.next.registry (sym (ap (option_map registry_of) there) ∙ ap (λ q. part_in q Registry) all) in
-      (λ i. published (registry_of (same i)) (tick i)) ∙ (λ i. published (one i) (sym frame.shape i).tick)
+  pub words_anew : IfSome rig.parts.registry (λ registry. words_in rig.words ≡ published (registry_of registry) a.shape.tick) → words_in rig.words ≡ published from.next.registry from.next.shape.tick
+  words_anew anew = at rig.parts.registry (ap (λ q. part_in q Registry) all) anew
     where
       some_is : {A : Type 0} (x y : A) → Some x ≡ Some y → x ≡ y
       some_is x y e = cc
 
+      none_is : {A : Type 0} (y : A) → None ≡ Some y → ⊥
+      none_is y e = cc
+
+      at : (o : Option RegistryPart) → option_map registry_of o ≡ Some from.next.registry → IfSome o (λ registry. words_in rig.words ≡ published (registry_of registry) a.shape.tick) → words_in rig.words ≡ published from.next.registry from.next.shape.tick
+      at None there same = absurd (none_is from.next.registry there)
+      at (Some registry) there same = same ∙ (λ i. published (some_is (registry_of registry) from.next.registry there i) (sym frame.shape i).tick)
+
   -- what a board keeps is kept
-  pub applied_kept : IsTyped call → PinsFit (chips_of rig.parts) → words_in rig.words ≡ published from.next.registry from.next.shape.tick → rig.words.tick ≡ a.shape.tick → IsKept (after_call a call rig)
-  applied_kept typed pins words tick = record {
+  pub applied_kept : IsTyped call → PinsFit (chips_of rig.parts) → words_in rig.words ≡ published from.next.registry from.next.shape.tick → IsKept (after_call a call rig)
+  applied_kept typed pins words = record {
     whole = whole;
     sound = subst IsSound (sym applied_is) (steps_keep_sound (board_in a) entry from.next kept.sound typed step);
     pins = pins;
     words = words ∙ (λ i. published (sym applied_is i).registry (frame.shape i).tick);
-    tick = tick;
   }

@@ -121,5 +121,4 @@ opened_kept shape rig limits opens = record {
   sound = subst IsSound (sym (opened_is shape rig opens)) (opening_is_sound shape limits);
   pins = opens.pins;
   words = (λ i. published (opens.words i) (opens.tick i)) ∙ ap (λ (b : Board). published b.registry shape.tick) (sym (opened_is shape rig opens));
-  tick = opens.tick;
 }

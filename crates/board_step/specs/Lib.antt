@@ -5,6 +5,7 @@ pub mod Sound
 pub mod History
 pub mod Laws
 pub mod Bodies
+pub mod Applied
 pub mod Whole
 pub mod Opening
 pub mod Owned

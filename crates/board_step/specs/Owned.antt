@@ -19,4 +19,3 @@ pub record IsKept (a : Inside) : Type 0 where
   pub sound : IsSound (board_in a)
   pub pins : PinsFit (chips_of a.rig.parts)
   pub words : words_in a.rig.words ≡ published (board_in a).registry a.shape.tick
-  pub tick : a.rig.words.tick ≡ a.shape.tick

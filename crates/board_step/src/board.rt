@@ -1,5 +1,8 @@
 //! A whole board on one thread.
-ghost use Rattle.std.specs.Prelude.{◌≡◌, ◌<◌, ◌↔◌, IfOk, IsErrOf, Err};
+ghost use Rattle.std.specs.Prelude.{◌≡◌, ◌<◌, ◌↔◌, IfOk, IsErrOf, Err, true, false, None, Some, MatchResult, OnErr};
+ghost use Rattle.irq_base.specs.Callers.{is_allowed};
+ghost use Rattle.irq_base.specs.declared.shape.Part.{Part};
+ghost use Rattle.board_model.specs.Board.{part_of};
 ghost use Rattle.board_model.specs.Run.{Wishes};
 ghost use Rattle.board_model.specs.Published.{published};
 ghost use Rattle.board_model.specs.Hand.{all_parts};
@@ -7,16 +10,22 @@ ghost use Rattle.board_raise.specs.BoardRig.{words_in};
 ghost use Rattle.board_raise.specs.Fit.{InLimits, Fits};
 ghost use Rattle.board_raise.specs.InHand.{parts_of, chips_of};
 ghost use Rattle.board_step.specs.declared.open.OpenError.TheVariants as errors;
+ghost use Rattle.board_step.specs.Applied.{Applied};
 ghost use Rattle.board_step.specs.Due.{AnswersDue};
 ghost use Rattle.board_step.specs.History.{opening};
+ghost use Rattle.board_step.specs.Reach.{reach};
 ghost use Rattle.board_step.specs.Sound.{IsSound};
+ghost use Rattle.board_step.specs.Step.{spent_of};
 ghost use Rattle.board_step.specs.Whole.{IsWhole, board_of};
 
 use crate::due::{Due, due_in_hand};
 use crate::open::OpenError;
 use crate::opening::{is_in_limits, rig};
+use crate::limits::{barred_by, would_publish_in};
+use crate::step::step_on;
+use crate::typed::calls_are_typed;
 use board_raise::{BoardRig, Parts, Words};
-use irq_base::{NoMemory, Shape};
+use irq_base::{Call, Caller, Done, Events, NoMemory, Shape, Spent};
 use std::alloc::Global;
 use std::marker::Model;
 
@@ -101,6 +110,46 @@ impl Board {
         let _ = &self.length;
     }
 
+    /// One call on the board. The call is allowed to its caller.
+    ///
+    /// `Ok` comes exactly where no limit of the board bars the call, with the reply and with the number of calls that were
+    /// answered before; then the board before, the entry of the call and the board after are a step, and the events of the step
+    /// stand after those that stood in the list, but for what finds no room for 640. No part outside the call's reach changes.
+    ///
+    /// `Spent` names the limit that bars the call: that of calls, or, where the call would be a publication, that of
+    /// publications. Then nothing changes, and no event is told. It takes no memory.
+    pub fn apply(
+        &mut self,
+        caller: Caller,
+        call: &Call,
+        events: &mut Events,
+    ) -> Result<Done, Spent>
+        requires { is_allowed caller call.now self.old.shape ≡ true }
+        ensures spent { MatchResult result (λ _. spent_of self.old call.now ≡ None) (λ spent. spent_of self.old call.now ≡ Some spent) }
+        ensures applied { IfOk result (λ done. Applied self.old caller call.now done events.old.items events.new.items self.new) }
+        ensures outside { (p : Part) → reach self.old caller call.now p ≡ false → part_of self.new p ≡ part_of self.old p }
+        ensures stays { OnErr result (self.new ≡ self.old) }
+        ensures quiet { OnErr result (events.new ≡ events.old) }
+    {
+        let publishes = would_publish_in(self.rig.all(), &self.shape, call);
+        if let Some(spent) = barred_by(&self.shape, self.length, self.publications, publishes) {
+            return Err(spent);
+        }
+        match step_on(&mut self.rig, &self.shape, caller, call, events) {
+            Err(_) => unreachable!(),
+            Ok(reply) => {
+                calls_are_typed(call);
+                let at = self.length;
+                self.length += 1;
+                if publishes {
+                    self.publications += 1;
+                    self.rig.publish(self.shape.tick);
+                }
+                Ok(Done { reply, at })
+            }
+        }
+    }
+
     /// What an `Ack` by the processor would answer now. Nothing changes.
     pub fn due(&self, cpu: u16) -> Due
         requires { cpu < self.now.shape.cpus }
@@ -116,7 +165,6 @@ impl Board {
         ensures made { board_of self.shape (parts_of result.0) self.length self.publications ≡ self }
         ensures fits { Fits self.shape (parts_of result.0) (chips_of result.0) }
         ensures words { words_in result.1 ≡ published self.registry self.shape.tick }
-        ensures tick { result.1.tick ≡ self.shape.tick }
     {
         self.rig.into_parts()
     }
@@ -134,7 +182,6 @@ impl Board {
         requires fits { Fits shape.now (parts_of parts) (chips_of parts) }
         requires sound { IsSound (board_of shape.now (parts_of parts) length publications) }
         requires words { words_in words ≡ published (board_of shape.now (parts_of parts) length publications).registry shape.now.tick }
-        requires tick { words.tick ≡ shape.now.tick }
         ensures { result ≡ board_of shape.now (parts_of parts) length publications }
     {
         Board {

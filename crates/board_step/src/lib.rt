@@ -12,11 +12,14 @@ mod board;
 mod bodies;
 mod due;
 mod laws;
+mod limits;
+mod on_board;
 mod open;
 mod opening;
 mod publications;
 mod reach;
 mod sound;
+mod step;
 mod typed;
 mod whole;
 
@@ -27,6 +30,7 @@ pub use laws::{
     always_answers, answers_once, board_after_is_reached, calls_steadily, leads_to_one,
     refused_rightly, refuses_first, steps_are_followed, steps_tell_few, words_stay,
 };
+pub use on_board::OnBoard;
 pub use open::OpenError;
 pub use publications::{
     histories_keep_the_frame, legal_histories_count, limits_are_told,
@@ -35,6 +39,7 @@ pub use publications::{
 };
 pub use reach::{depends_on_reach, reach_is_table, stays_outside_reach};
 pub use sound::{histories_keep_sound, opening_is_sound, steps_keep_sound};
+pub use step::step_on;
 pub use typed::calls_are_typed;
 pub use whole::{
     all_parts_are_whole, board_has_its_parts, parts_make_their_board, whole_parts_are_all,

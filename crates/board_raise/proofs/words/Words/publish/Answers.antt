@@ -7,8 +7,8 @@ use Rattle.board_raise.proofs.words.Words.publish.Goals as goal
 
 pub invariant_of-self : goal.invariant_of-self
 invariant_of-self c =
-    let low = c.args.self.now.in_range in
-    let tick = c.args.self.now.tick in
+    let low = c.requires.tick in
+    let tick = c.args.tick in
     record {
       in_range = low;
       told = subst (λ (r : RegistryPart). ∥ PublishesRouting (registry_of r) tick ∥₁) (sym c.copy_from.ensures)

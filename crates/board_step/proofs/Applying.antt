@@ -1,0 +1,103 @@
+-- One call on a board in code is one step of it.
+use Rattle.std.proofs.Common.{◌≡◌, ℕ, ◌+◌, ◌<◌, Bool, true, false, true≢false, nat_lt, List, is_some, Some, None, refl, sym, ap, ◌∙◌, subst, arith}
+use Rattle.std.proofs.lemmas.Bool.Decides.{nat_tests}
+use Rattle.std.specs.Prelude.{IfSome, unwrap_or}
+use Rattle.std.specs.declared.option.Option.{Option}
+use Rattle.irq_base.specs.Callers.{is_allowed}
+use Rattle.irq_base.specs.declared.call.Call.{Call}
+use Rattle.irq_base.specs.declared.call.Caller.{Caller}
+use Rattle.irq_base.specs.declared.event.Event.{Event}
+use Rattle.irq_base.specs.declared.reply.Reply.{Reply}
+use Rattle.irq_base.specs.declared.shape.Part.{Part}
+use Rattle.irq_base.specs.declared.shape.Part.TheVariants.{Registry, Counters, Tick, Pic, Ioapic, Lapic}
+use Rattle.board_model.specs.Agreement.{LacksReached}
+use Rattle.board_model.specs.Board.{part_of}
+use Rattle.board_model.specs.Hand.{part_in}
+use Rattle.board_model.specs.Published.{published}
+use Rattle.board_raise.specs.declared.board_rig.BoardRig.{BoardRig}
+use Rattle.board_raise.specs.BoardRig.{words_in}
+use Rattle.board_raise.specs.Fit.{Fits}
+use Rattle.board_raise.specs.InHand.{registry_of, parts_of, chips_of}
+use Rattle.board_calls.specs.Done.{FitsShape, FitsButTick}
+use Rattle.board_step.specs.declared.board.Board.TheInside.{Inside}
+use Rattle.board_step.specs.Applied.{Applied}
+use Rattle.board_step.specs.Bodies.{MayCall, entry_of, Stepped}
+use Rattle.board_step.specs.History.{opening_registry}
+use Rattle.board_step.specs.Laws.{IsTyped}
+use Rattle.board_step.specs.Owned.{board_in, IsKept}
+use Rattle.board_step.specs.Publications.{spent_by}
+use Rattle.board_step.specs.Reach.{reach}
+use Rattle.board_step.specs.Step.{would_publish, spent_of, Step}
+use Rattle.board_step.specs.Whole.{is_part}
+use Rattle.board_step.proofs.Applied.{published_by, after_call, applied_steps, applied_kept, words_left, words_anew}
+use Rattle.board_step.proofs.OpeningParts.{sound_fits}
+use Rattle.board_step.proofs.ReachDecides.{stays_outside_reach}
+use Rattle.board_step.proofs.There.{reach_is_there}
+use Rattle.board_step.proofs.WholeParts.{board_has_its_parts}
+
+-- ---- before the call
+
+-- what is there is not made up
+there : {A : Type 0} (o : Option A) (d : A) → is_some o ≡ true → Some (unwrap_or o d) ≡ o
+there None d is = absurd (true≢false (sym is))
+there (Some x) d is = refl
+
+pub registry_there : (a : Inside) → IsKept a → Some (board_in a).registry ≡ (parts_of a.rig.parts).registry
+registry_there a kept = there (parts_of a.rig.parts).registry opening_registry (kept.whole.each Registry refl)
+
+-- the parts of a board fit its shape
+pub board_fits : (a : Inside) → IsKept a → FitsShape a.shape a.rig.parts
+board_fits a kept =
+    subst (λ q. Fits a.shape q (chips_of a.rig.parts)) (board_has_its_parts a.shape (parts_of a.rig.parts) a.length a.publications kept.whole)
+    (sound_fits (board_in a) (chips_of a.rig.parts) kept.sound kept.pins)
+
+-- the counts and whether it is a publication tell which limit bars a call
+pub spent_told : (a : Inside) (call : Call) (t : Bool) → t ≡ would_publish (board_in a) call → spent_by a.shape a.length a.publications t ≡ spent_of (board_in a) call
+spent_told a call t is = ap (spent_by a.shape a.length a.publications) is
+
+-- a part that a call reaches is one of the board, which is in hand
+pub never_lacks : (a : Inside) → IsKept a → (caller : Caller) (call : Call) → is_allowed caller call a.shape ≡ true → (p : Part) → LacksReached p (parts_of a.rig.parts) (reach (board_in a) caller call) → ⊥
+never_lacks a kept caller call allowed p lacks = true≢false (sym (kept.whole.each p (is_of p lacks.reached)) ∙ ap is_some lacks.lacking)
+  where
+    below : (n m : ℕ) → n < m → nat_lt n m ≡ true
+    below n m h = grind (h, arith, nat_tests)
+
+    is_of : (p : Part) → reach (board_in a) caller call p ≡ true → is_part a.shape p ≡ true
+    is_of Registry within = refl
+    is_of Counters within = refl
+    is_of Tick within = refl
+    is_of Pic within = refl
+    is_of Ioapic within = refl
+    is_of (Lapic n) within = below n a.shape.cpus (reach_is_there (board_in a) caller call n allowed within)
+
+-- ---- after it
+
+module _ (a : Inside) (kept : IsKept a) (caller : Caller) (call : Call) (reply : Reply) (before now : List Event) (rig : BoardRig)
+    (stepped : Stepped (board_in a) caller call (parts_of a.rig.parts) (parts_of rig.parts) reply before now) (may : MayCall (board_in a) caller call)
+    (fits : FitsButTick a.shape rig.parts) (t : Bool) (is : t ≡ would_publish (board_in a) call) where
+  -- the board in code: one call more, and one publication more where it is one
+  abbrev pub left : Inside
+  left = record { shape = a.shape; rig = rig; length = a.length + 1; publications = published_by t a.publications }
+
+  left_is : after_call a call rig ≡ left
+  left_is = ap (λ u. record { shape = a.shape; rig = rig; length = a.length + 1; publications = published_by u a.publications }) (sym is)
+
+  step : Step (board_in a) (entry_of caller call reply stepped.told) (board_in left)
+  step = subst (λ x. Step (board_in a) (entry_of caller call reply stepped.told) (board_in x)) left_is (applied_steps a kept caller call reply stepped.told rig stepped.leads may fits.others.lapics.places)
+
+  pub call_applied : Applied (board_in a) caller call (record { reply = reply; at = a.length }) before now (board_in left)
+  call_applied = record { at = refl; told = stepped.told; events = stepped.noted; step = step }
+
+  pub call_outside : (p : Part) → reach (board_in a) caller call p ≡ false → part_of (board_in left) p ≡ part_of (board_in a) p
+  call_outside p outside = stays_outside_reach (board_in a) (entry_of caller call reply stepped.told) (board_in left) p step outside
+
+  keeps : IsTyped call → words_in rig.words ≡ published stepped.leads.next.registry stepped.leads.next.shape.tick → IsKept left
+  keeps typed words = subst IsKept left_is (applied_kept a kept caller call reply stepped.told rig stepped.leads may fits.others.lapics.places typed (record { pic = fits.others.pins.pic; ioapic = fits.others.pins.ioapic }) words)
+
+  -- no publication, and the words are as they were
+  pub kept_quietly : IsTyped call → t ≡ false → words_in rig.words ≡ words_in a.rig.words → IsKept left
+  kept_quietly typed quiet same = keeps typed (words_left a kept caller call reply stepped.told rig stepped.leads may fits.others.lapics.places (sym is ∙ quiet) same)
+
+  -- the words are published anew
+  pub kept_anew : IsTyped call → IfSome rig.parts.registry (λ registry. words_in rig.words ≡ published (registry_of registry) a.shape.tick) → IsKept left
+  kept_anew typed anew = keeps typed (words_anew a kept caller call reply stepped.told rig stepped.leads may fits.others.lapics.places anew)

@@ -1,0 +1,25 @@
+-- One call on a board in code, and limits that are reached (this board's own rule).
+use Rattle.std.specs.Prelude.{◌≡◌, List}
+use Rattle.irq_base.specs.Room.{with_told}
+use Rattle.irq_base.specs.declared.call.Call.{Call}
+use Rattle.irq_base.specs.declared.call.Caller.{Caller}
+use Rattle.irq_base.specs.declared.event.Event.{Event}
+use Rattle.irq_base.specs.declared.reply.Done.{Done}
+use Rattle.irq_base.specs.declared.reply.Spent.{Spent}
+use Rattle.irq_base.specs.declared.reply.Spent.TheVariants.{Calls, Publications}
+use Rattle.board_model.specs.Board.{Board}
+use Rattle.board_step.specs.Bodies.{entry_of}
+use Rattle.board_step.specs.Step.{Step}
+
+-- a call was answered: so many entries stood before it; it told events after those that stood in the list, but for what found
+-- no room; and its entry leads from the board before to the board after
+pub record Applied (old : Board) (caller : Caller) (call : Call) (done : Done) (before now : List Event) (new : Board) : Type 0 where
+  pub at : done.at ≡ old.length
+  pub told : List Event
+  pub events : now ≡ with_told before told
+  pub step : Step old (entry_of caller call done.reply told) new
+
+-- a limit of a board's shape that is reached
+abbrev pub IsReached : Board → Spent → Type 0
+IsReached b (Calls at) = (at ≡ b.shape.calls) × (b.length ≡ at)
+IsReached b (Publications at) = (at ≡ b.shape.publications) × (b.publications ≡ at)

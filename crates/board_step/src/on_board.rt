@@ -1,0 +1,57 @@
+//! One caller's way to a board on one thread.
+ghost use Rattle.std.specs.Prelude.{◌≡◌, true, IfSome};
+ghost use Rattle.irq_base.specs.Callers.{is_there};
+ghost use Rattle.board_step.specs.Applied.{IsReached};
+
+use crate::board::Board;
+use irq_base::{Call, Caller, Done, Events, Face, Spent, Stops};
+
+/// One caller's way to a board on one thread, which it borrows: a device below 64 or a processor of the board.
+///
+/// It keeps how often a limit of the board barred a call, and the limit of the last such call, which is reached.
+#[derive(Drop)]
+pub struct OnBoard<'a> {
+    pub board: &'a mut Board,
+    pub caller: Caller,
+    pub stops: Stops,
+    ghost there: { is_there caller board.now.shape ≡ true },
+    ghost reached: { IfSome stops.last (IsReached board.now) },
+}
+
+impl<'a> Face for OnBoard<'a> {
+    ghost use Rattle.std.specs.Prelude.{◌≡◌, ◌-◌, true, is_some, Some, None};
+    ghost use Rattle.board_step.specs.Step.{spent_of};
+
+    ghost shape = { λ f. f.board.now.shape };
+
+    ghost who = { λ f. f.caller };
+
+    ghost floor = { λ f. f.board.now.length };
+
+    ghost stops = { λ f. f.stops.count };
+
+    ghost last = { λ f. f.stops.last };
+
+    ghost own = { λ _. None };
+
+    ghost home = { λ _. None };
+
+    ghost left = { λ f. Some (f.board.now.shape.calls - f.board.now.length) };
+
+    ghost barred = { λ f call. is_some (spent_of f.board.now call) ≡ true };
+
+    fn caller(&self) -> Caller {
+        self.caller
+    }
+
+    fn ask(&mut self, call: &Call, events: &mut Events) -> Result<Done, Spent> {
+        events.clear();
+        match self.board.apply(self.caller, call, events) {
+            Ok(done) => Ok(done),
+            Err(spent) => {
+                self.stops.stop(spent);
+                Err(spent)
+            }
+        }
+    }
+}
