@@ -8,3 +8,5 @@ pub mod Composed
 pub mod Steps
 pub mod Room
 pub mod Counts
+pub mod Answering
+pub mod Accesses

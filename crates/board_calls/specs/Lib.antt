@@ -3,3 +3,4 @@ pub mod Moved
 pub mod Pieces
 pub mod Families
 pub mod Told
+pub mod Accessed
