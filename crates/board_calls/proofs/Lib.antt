@@ -10,3 +10,4 @@ pub mod Room
 pub mod Counts
 pub mod Answering
 pub mod Accesses
+pub mod Ringing

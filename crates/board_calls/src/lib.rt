@@ -9,10 +9,13 @@
 mod acks;
 mod counters;
 mod families;
+mod ioapic;
 mod irqfds;
+mod pair;
 mod range;
 mod registrations;
 mod reroute;
+mod ring;
 mod signals;
 mod ticks;
 
