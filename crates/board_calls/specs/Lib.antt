@@ -9,3 +9,4 @@ pub mod Moved
 pub mod Pieces
 pub mod Families
 pub mod Told
+pub mod Accessed

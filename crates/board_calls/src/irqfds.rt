@@ -16,9 +16,9 @@ ghost use Rattle.board_calls.specs.Told.{TellsOn};
 ghost use Rattle.board_calls.specs.Pieces.{adding, clashes, last_removed, removing};
 
 use crate::registrations::is_trigger;
-use crate::signals::source_of;
-use board_raise::{Lacks, Parts, RegistryPart, Rig, inject, lower_gsi};
-use irq_base::{Event, Events, Part, Refusal, Reply, Shape, Source, tell};
+use crate::signals::inject_told;
+use board_raise::{Lacks, Parts, RegistryPart, Rig, TriggerWord, lower_gsi};
+use irq_base::{Events, Part, Refusal, Reply, Shape, Source};
 use irqfd_set::{Irqfd, Irqfds};
 
 /// Makes an irqfd: `Done`, or `Busy` where the trigger is that of a living irqfd, or `RoleClash` where it is signalled by a
@@ -159,14 +159,11 @@ fn inject_count<R: Rig>(
     ensures strays { R.astray rig.new ≡ false → R.astray rig.old ≡ false }
     ensures noted { R.noted rig.new ≡ R.noted rig.old }
 {
-    let targets = rig.targets(gsi);
-    match inject(rig, shape.cpus, &targets, source_of(resample.is_some())) {
-        Ok(status) => {
-            tell(Event::Injected { gsi, status }, events);
-            Ok(())
-        }
-        Err(lacks) => Err(lacks),
-    }
+    let trigger = TriggerWord {
+        gsi,
+        resample: resample.is_some(),
+    };
+    inject_told(rig, shape, trigger, events)
 }
 
 /// Ends the irqfd of that trigger and that GSI: `Removed(1)`, or `Removed(0)` where there is none. Where it was the last with a

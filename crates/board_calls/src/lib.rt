@@ -4,17 +4,22 @@
 //! Reading order of the definitions: `Refusals` (why a call is refused), `Registrations`, `Ticks`, `Processors` and `Accesses`
 //! (what each call does), `Calls` (all of them); and of the code: `Families` (which call has which function), `Done` (what a
 //! call in code is to its plan: reply, parts and wishes are the plan's, or what is lacking is), `Told` (events past their
-//! room), `Moved` (holds of pins whose GSI moves), `Pieces` (the first steps of calls that signal after them).
+//! room), `Moved` (holds of pins whose GSI moves), `Pieces` (the first steps of calls that signal after them), `Accessed` (those
+//! of accesses of the guest).
 #![tactic(auto)]
 
+mod acks;
 mod counters;
 mod families;
 mod guest;
+mod ioapic;
 mod irqfds;
+mod pair;
 mod range;
 mod refusals;
 mod registrations;
 mod reroute;
+mod ring;
 mod signals;
 mod ticks;
 

@@ -177,8 +177,8 @@ fn is_chip_address(space: Space, address: u64) -> bool
     }
 }
 
-// Whether a port is one of the 8259A pair.
-fn is_port(port: u64) -> bool
+/// Whether a port is one of the 8259A pair.
+pub fn is_port(port: u64) -> bool
     ensures { result ≡ is_port port }
 {
     port == 0x20 || port == 0x21 || port == 0xa0 || port == 0xa1 || port == 0x4d0 || port == 0x4d1

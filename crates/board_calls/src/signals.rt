@@ -1,19 +1,22 @@
 //! Lines, messages and triggers signal.
-ghost use Rattle.std.specs.Prelude.{◌≡◌, ◌<◌, ◌-◌, ◌/◌, ◌^◌, true, false};
+ghost use Rattle.std.specs.Prelude.{◌≡◌, ◌<◌, ◌-◌, ◌/◌, ◌^◌, ℕ, Some, true, false};
 ghost use Rattle.irq_base.specs.declared.message.Source.TheVariants.{Line};
 ghost use Rattle.irq_base.specs.declared.shape.Shape.{Shape as Sizes};
 ghost use Rattle.msi_decode.specs.Messages.{message_in};
 ghost use Rattle.source_levels.specs.Holds.{IsSource};
 ghost use Rattle.board_model.specs.Published.{routing_of_words};
+ghost use Rattle.board_model.specs.Run.{run_on};
 ghost use Rattle.board_raise.specs.Fit.{PinsFit};
-ghost use Rattle.board_raise.specs.InHand.{chips_of};
+ghost use Rattle.board_raise.specs.InHand.{parts_of, chips_of};
 ghost use Rattle.board_raise.specs.Signal.{lower};
-ghost use Rattle.board_calls.specs.Registrations.{line_set, message_sent, source_of, trigger_written, write};
+ghost use Rattle.board_ack.specs.OnHand.{Adds};
+ghost use Rattle.board_step.specs.Accesses.{ring_counter};
+ghost use Rattle.board_step.specs.Registrations.{line_set, message_sent, source_of, trigger_written, write};
 ghost use Rattle.board_calls.specs.Done.{Replies, SameInHand, FitsShape};
 
 use crate::counters::add;
 use board_raise::{Lacks, Rig, TriggerWord, inject, lower_gsi, raise_gsi, send};
-use irq_base::{Message, Reply, Shape, Source};
+use irq_base::{Event, Events, Message, Reply, Shape, Source, tell};
 use msi_decode::decode;
 
 /// A line source of a GSI goes high (KVM_IRQ_LINE): `Signal` with the status.
@@ -125,6 +128,34 @@ pub fn write_trigger<R: Rig>(
     let targets = rig.targets(trigger.gsi);
     match inject(rig, shape.cpus, &targets, source_of(trigger.resample)) {
         Ok(status) => Ok(Reply::Signal(status)),
+        Err(lacks) => Err(lacks),
+    }
+}
+
+/// The irqfd of a trigger injects, and the event `Injected` tells the status; it is left out where it finds no room. It is what
+/// the ring of a trigger does, whatever its counter.
+pub fn inject_told<R: Rig>(
+    rig: &mut R,
+    shape: &Shape,
+    trigger: TriggerWord,
+    events: &mut Events,
+) -> Result<(), Lacks>
+    requires gsi { trigger.gsi < 4096 }
+    requires fits { FitsShape shape.now (R.held rig.old) }
+    ensures does { (counter : ℕ) → R.astray rig.new ≡ false → Adds result events.old.items events.new.items (parts_of (R.held rig.new)) (R.wishes rig.new) (run_on (ring_counter (routing_of_words (R.published rig.old)) shape.now counter (Some trigger)) (parts_of (R.held rig.old)) (R.wishes rig.old)) }
+    ensures held { SameInHand (R.held rig.old) (R.held rig.new) }
+    ensures fits { FitsShape shape.now (R.held rig.new) }
+    ensures published { R.published rig.new ≡ R.published rig.old }
+    ensures strays { R.astray rig.new ≡ false → R.astray rig.old ≡ false }
+    ensures noted { R.noted rig.new ≡ R.noted rig.old }
+{
+    let gsi = trigger.gsi;
+    let targets = rig.targets(gsi);
+    match inject(rig, shape.cpus, &targets, source_of(trigger.resample)) {
+        Ok(status) => {
+            tell(Event::Injected { gsi, status }, events);
+            Ok(())
+        }
         Err(lacks) => Err(lacks),
     }
 }
