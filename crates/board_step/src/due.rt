@@ -3,7 +3,7 @@ ghost use Rattle.std.specs.Prelude.{◌≡◌, ◌<◌, length, option_map};
 ghost use Rattle.board_raise.specs.declared.parts.PicPart.{PicPart};
 ghost use Rattle.board_raise.specs.OnRow.{apic_in};
 ghost use Rattle.board_step.specs.Due.{due_by, due_in};
-ghost use Rattle.board_step.specs.Processors.{lets_through};
+ghost use Rattle.board_step.specs.Processors.{hears_pair, lets_through};
 
 use board_raise::Parts;
 use lapic::Lapic;
@@ -30,29 +30,25 @@ fn lets_through(lapic: &Lapic) -> bool
     lint0 >> 16 & 1 == 0 && lint0 >> 8 & 7 == 7
 }
 
-// A copy of the local APIC of that number.
-fn copied(lapic: &Lapic, n: u16) -> Lapic
-    requires { n < 256 }
-    ensures { result ≡ lapic.now }
+/// Whether the 8259A pair reaches processor n, whose local APIC this is: it reaches processor 0 alone, where LINT0 is not
+/// masked (bit 16) and its mode is ExtINT (bits 10 to 8 are 111).
+pub fn hears_pair(lapic: &Lapic, n: u16) -> bool
+    ensures { result ≡ hears_pair n lapic.now }
 {
-    let mut copy = Lapic::power_on(n);
-    copy.copy_from(lapic);
-    copy
+    n == 0 && lets_through(lapic)
 }
 
-// What the local APIC of processor n and the pair would give it. It looks at a copy, since giving changes the local APIC.
+// What the local APIC of processor n and the pair would give it.
 fn due_of(lapic: &Lapic, pair: &Pair, n: u16) -> Due
-    requires { n < 256 }
     ensures { result ≡ due_by n lapic.now pair.now }
 {
-    let mut copy = copied(lapic, n);
-    if copy.take_nmi() {
+    if lapic.has_nmi() {
         return Due::Nmi;
     }
-    if n == 0 && lets_through(lapic) && pair.output() {
+    if hears_pair(lapic, n) && pair.output() {
         return Due::Extint;
     }
-    match copy.give() {
+    match lapic.giveable() {
         None => Due::None,
         Some(vector) => Due::Vector(vector),
     }
@@ -60,8 +56,7 @@ fn due_of(lapic: &Lapic, pair: &Pair, n: u16) -> Due
 
 // What processor n would be given by the parts in hand.
 pub(crate) fn due_in_hand(parts: &Parts, n: u16) -> Due
-    requires place { n < length parts.now.lapics }
-    requires few { n < 256 }
+    requires { n < length parts.now.lapics }
     ensures { result ≡ due_in n (apic_in parts.now.lapics n) (option_map (λ (part : PicPart). part.pair) parts.now.pic) }
 {
     match (parts.lapics.at(n), &parts.pic) {

@@ -22,7 +22,7 @@ mod whole;
 
 pub use board::Board;
 pub use bodies::{bodies_step, done_leads};
-pub use due::Due;
+pub use due::{Due, hears_pair};
 pub use laws::{
     always_answers, answers_once, board_after_is_reached, calls_steadily, leads_to_one,
     refused_rightly, refuses_first, steps_are_followed, steps_tell_few, words_stay,
