@@ -8,3 +8,6 @@ pub mod Composed
 pub mod Steps
 pub mod Room
 pub mod Counts
+pub mod Own
+pub mod Marked
+pub mod Telling

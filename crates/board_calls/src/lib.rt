@@ -7,8 +7,10 @@
 #![tactic(auto)]
 
 mod counters;
+mod ends;
 mod families;
 mod irqfds;
+mod page;
 mod range;
 mod registrations;
 mod reroute;
