@@ -1,5 +1,5 @@
 -- Parts in hand that fit a shape fit it still after one of them has changed.
-use Rattle.std.proofs.Common.{◌≡◌, ℕ, ◌+◌, ◌^◌, ◌<◌, ◌≤◌, length, Bool, not, filter, Some, None, sym, subst}
+use Rattle.std.proofs.Common.{◌≡◌, ℕ, ◌+◌, ◌^◌, ◌<◌, ◌≤◌, length, Bool, not, filter, List, Some, None, sym, subst, ◌∙◌}
 use Rattle.std.proofs.lemmas.List.Elements.{All-filter}
 use Rattle.std.specs.Prelude.{option_map, IfSome, MatchOption}
 use Rattle.std.specs.declared.option.Option.{Option}
@@ -10,9 +10,25 @@ use Rattle.irqfd_set.specs.Rows.{is_named, without_row}
 use Rattle.ioevent_set.specs.declared.row.IoRow.{IoRow}
 use Rattle.board_raise.specs.declared.parts.Parts as code
 use Rattle.board_raise.specs.declared.parts.RegistryPart as registry
-use Rattle.board_raise.specs.Fit.{IrqfdFits, WatchFits, RegistrationsFit, LapicsFit, PinsFit}
+use Rattle.board_raise.specs.declared.parts.PicPart as pic
+use Rattle.board_raise.specs.declared.parts.IoPart as io
+use Rattle.board_raise.specs.Fit.{IrqfdFits, WatchFits, RegistrationsFit, PairFits, IoapicFits, LapicsFit, PinsFit}
 use Rattle.board_raise.specs.InHand.{registry_of, parts_of, chips_of, OnlySignalled}
+use Rattle.board_raise.specs.OnRow.{apic_in}
+use Rattle.board_raise.proofs.Telling.{same_number}
+use Rattle.board_ack.specs.OnHand.{OnlyAcked}
 use Rattle.board_calls.specs.Done.{FitsShape, FitsButTick}
+
+as_many : (n : ℕ) (old new : Option (List ℕ)) → option_map length new ≡ option_map length old → IfSome old (λ counts. length counts ≡ n) → IfSome new (λ counts. length counts ≡ n)
+as_many n old None e fit = tt
+as_many n None (Some counts) e fit = absurd (some_none e)
+  where
+    some_none : Some (length counts) ≡ None → ⊥
+    some_none e = cc
+as_many n (Some before) (Some counts) e fit = same e ∙ fit
+  where
+    same : Some (length counts) ≡ Some (length before) → length counts ≡ length before
+    same e = cc
 
 -- another registry whose registrations fit
 pub fits_with_registry : (shape : Shape) (p : code.Parts) (old new : registry.RegistryPart) → p.registry ≡ Some old
@@ -45,6 +61,42 @@ pub removed_fits : (counters : ℕ) (old : registry.RegistryPart) (trigger gsi :
 removed_fits counters old trigger gsi new None after fit = subst (λ (r : registry.RegistryPart). RegistrationsFit counters (registry_of r)) (sym after) fit
 removed_fits counters old trigger gsi new (Some is) after fit =
     subst (λ (r : registry.RegistryPart). RegistrationsFit counters (registry_of r)) (sym after) (fewer_irqfds counters old fit (λ row. not (is_named trigger gsi row)))
+
+-- ---- another part
+
+module _ (shape : Shape) (p : code.Parts) (fits : FitsShape shape p) where
+  -- a pair whose pins fit
+  pub fits_with_pic : (pic : pic.PicPart) → PairFits pic.pair pic.levels → FitsShape shape (record p { pic = Some pic })
+  fits_with_pic pic fit = record {
+    limits = fits.limits;
+    counters = fits.counters;
+    registrations = fits.registrations;
+    tick = fits.tick;
+    lapics = record { places = fits.lapics.places; numbers = fits.lapics.numbers };
+    pins = record { pic = fit; ioapic = fits.pins.ioapic };
+  }
+
+  -- an I/O APIC whose pins fit
+  pub fits_with_ioapic : (ioapic : io.IoPart) → IoapicFits ioapic.ioapic ioapic.levels → FitsShape shape (record p { ioapic = Some ioapic })
+  fits_with_ioapic ioapic fit = record {
+    limits = fits.limits;
+    counters = fits.counters;
+    registrations = fits.registrations;
+    tick = fits.tick;
+    lapics = record { places = fits.lapics.places; numbers = fits.lapics.numbers };
+    pins = record { pic = fits.pins.pic; ioapic = fit };
+  }
+
+  -- a pin was acknowledged, and the pins fit
+  pub fits_acked : (new : code.Parts) → OnlyAcked p new → PinsFit (chips_of new) → FitsShape shape new
+  fits_acked new kept pins = record {
+    limits = fits.limits;
+    counters = as_many shape.counters p.counters new.counters kept.counters fits.counters;
+    registrations = subst (λ (o : Option registry.RegistryPart). IfSome (option_map registry_of o) (RegistrationsFit shape.counters)) (sym kept.registry) fits.registrations;
+    tick = kept.tick (2 ^ 40) fits.tick;
+    lapics = record { places = kept.places ∙ fits.lapics.places; numbers = λ n. same_number n (apic_in new.lapics n) (apic_in p.lapics n) (kept.numbers n) (fits.lapics.numbers n) };
+    pins = record { pic = pins.pic; ioapic = pins.ioapic };
+  }
 
 -- ---- after a signal
 

@@ -5,6 +5,8 @@ use Rattle.irq_base.specs.declared.shape.Part.TheVariants.{Registry, Counters, T
 use Rattle.tick_reinject.specs.declared.state.TickState.{TickState}
 use Rattle.board_raise.specs.declared.parts.Parts as code
 use Rattle.board_raise.specs.declared.parts.RegistryPart as registry
+use Rattle.board_raise.specs.declared.parts.PicPart as pic
+use Rattle.board_raise.specs.declared.parts.IoPart as io
 use Rattle.board_model.specs.Hand.{part_in}
 use Rattle.board_raise.specs.InHand.{parts_of}
 use Rattle.board_raise.specs.OnRow.{apic_in}
@@ -31,4 +33,10 @@ module _ (p : code.Parts) (part : Part) where
   pub with_tick : (tick : TickState) → is_some p.tick ≡ true → is_some (part_in (parts_of (record p { tick = Some tick })) part) ≡ is_some (part_in (parts_of p) part)
   with_tick tick there = in_hand p (record p { tick = Some tick }) refl refl (sym there) refl refl refl part
 
-pub ruleset in_hand_rules = (with_registry, with_counters, with_tick)
+  pub with_pic : (pic : pic.PicPart) → is_some p.pic ≡ true → is_some (part_in (parts_of (record p { pic = Some pic })) part) ≡ is_some (part_in (parts_of p) part)
+  with_pic pic there = in_hand p (record p { pic = Some pic }) refl refl refl (sym there) refl refl part
+
+  pub with_ioapic : (ioapic : io.IoPart) → is_some p.ioapic ≡ true → is_some (part_in (parts_of (record p { ioapic = Some ioapic })) part) ≡ is_some (part_in (parts_of p) part)
+  with_ioapic ioapic there = in_hand p (record p { ioapic = Some ioapic }) refl refl refl refl (sym there) refl part
+
+pub ruleset in_hand_rules = (with_registry, with_counters, with_tick, with_pic, with_ioapic)

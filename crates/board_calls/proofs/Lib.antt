@@ -8,6 +8,8 @@ pub mod Composed
 pub mod Steps
 pub mod Room
 pub mod Counts
+pub mod Answering
+pub mod Accesses
 pub mod Own
 pub mod Marked
 pub mod Telling

@@ -14,7 +14,7 @@ use Rattle.board_model.specs.Chips as chips
 use Rattle.board_model.specs.Hand.{Parts}
 use Rattle.board_model.specs.Plan.{done}
 use Rattle.board_model.specs.Routing.{Routing}
-use Rattle.board_model.specs.Run.{Wishes, OnParts, gives, lacks, run_on}
+use Rattle.board_model.specs.Run.{Wishes, run_on}
 use Rattle.board_raise.specs.declared.lacks.Lacks.{Lacks}
 use Rattle.board_raise.specs.declared.parts.IoPart as io
 use Rattle.board_raise.specs.declared.parts.Parts as code
@@ -28,8 +28,7 @@ use Rattle.board_ack.specs.Acknowledge.{acknowledge, acknowledge_each}
 use Rattle.board_ack.specs.OnHand.{Adds}
 use Rattle.board_ack.proofs.Adding.{looked, adds_adds, nothing_adds}
 use Rattle.board_step.specs.Processors.{all_pins, pins_with}
-use Rattle.board_calls.specs.Pieces.{pins_marked, pins_seen}
-use Rattle.board_calls.specs.Told.{TellsOn}
+use Rattle.board_calls.specs.Own.{pins_marked, pins_seen}
 
 -- ---- the marks
 
@@ -129,11 +128,3 @@ module _ (routing : Routing) (shape : Shape) (marks : List Bool) (start : Parts)
             so_far (Err l) new after later
             (subst (λ (ps : List Pin). StopsAt l.part (run_on (acknowledge_each routing shape ps) q ws)) (sym (from_marked marks pin below marked))
             (stops_first (λ _. acknowledge_each routing shape (marked_from marks (pin + 1))) (acknowledge routing shape (Ioapic pin)) q ws l.part one))
-
--- ---- told
-
--- what is added is told
-pub added_tells : (old new : List Event) (after : Parts) (later : Wishes) (result : Result (Unit {0}) Lacks) (o : OnParts (Unit {0})) → Adds result old new after later o → TellsOn (λ (_ : Unit {0}). []) result old new after later o
-added_tells old new after later (Ok u) (gives c l left others) h = (l.events, record { ends = record { value_is = refl; events_are = refl; replies_are = sym h.replies; parts = h.parts; wishes = h.wishes }; room = h.events })
-added_tells old new after later (Ok u) (lacks p) h = absurd h
-added_tells old new after later (Err e) o h = h

@@ -18,7 +18,7 @@ use Rattle.board_raise.specs.Shown.{EndsWith, StopsAt}
 use Rattle.board_raise.proofs.Rows.{apic_in-other}
 use Rattle.board_ack.proofs.Adding.{looked, wrote}
 use Rattle.board_calls.specs.Done.{SameInHand, FitsShape}
-use Rattle.board_calls.specs.Pieces.{stored, storing}
+use Rattle.board_calls.specs.Own.{stored, storing}
 
 -- the parts with another local APIC of the processor
 abbrev pub with_own : code.Parts → ℕ → LocalApic → code.Parts

@@ -29,7 +29,8 @@ use Rattle.board_step.specs.Processors.{end_vector, ended_reply, end_of_interrup
 use Rattle.board_step.specs.Refusals.{assign_reasons}
 use Rattle.board_step.specs.Registrations.{unless_refused, release, deassigned, deassign, inject_count, assigned, assign}
 use Rattle.board_step.specs.Ticks.{tick_or_hold, tick}
-use Rattle.board_calls.specs.Pieces.{removed, removing, added, adding, falling, changing, stored, storing}
+use Rattle.board_calls.specs.Own.{changing, stored, storing}
+use Rattle.board_calls.specs.Pieces.{removed, removing, added, adding, falling}
 
 -- ---- an irqfd ends
 

@@ -3,3 +3,5 @@ pub mod Moved
 pub mod Pieces
 pub mod Families
 pub mod Told
+pub mod Accessed
+pub mod Own

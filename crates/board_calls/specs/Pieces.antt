@@ -1,26 +1,18 @@
 -- The first steps of calls that signal after them, each as a plan that ends with what the rest needs.
-use Rattle.std.specs.Prelude.{ℕ, Bool, false, ◌||◌, nat_eq, nat_lt, if◌then◌else◌, List, map, filter, get_or, slice_index, Result, Ok, Err, Some, None, option_map}
+use Rattle.std.specs.Prelude.{ℕ, Bool, false, ◌||◌, nat_eq, nat_lt, if◌then◌else◌, List, slice_index, Result, Ok, Err, Some, None, option_map}
 use Rattle.std.specs.List.{list_any}
 use Rattle.std.specs.declared.option.Option.{Option}
 use Rattle.irq_base.specs.Refusals.{first_of}
-use Rattle.irq_base.specs.declared.event.Pin.{Pin}
-use Rattle.irq_base.specs.declared.event.Pin.TheVariants as pins
 use Rattle.irq_base.specs.declared.refusal.Refusal.{Refusal}
-use Rattle.irq_base.specs.declared.shape.Part.TheVariants.{Registry, Counters, Tick, Ioapic, Lapic}
+use Rattle.irq_base.specs.declared.shape.Part.TheVariants.{Registry, Counters, Tick}
 use Rattle.event_counter.specs.Counters.{taken}
 use Rattle.irqfd_set.specs.declared.irqfds.Irqfd.{Irqfd}
 use Rattle.irqfd_set.specs.Rows.{has_trigger, named_row, with_row, without_row}
-use Rattle.lapic.specs.declared.outcome.Effect.{Effect}
-use Rattle.lapic.specs.declared.outcome.Effect.TheVariants.{Plain}
-use Rattle.lapic.specs.Registers.{LocalApic}
-use Rattle.lapic.specs.Offsets.{store_to, store_effect}
 use Rattle.tick_reinject.specs.Ticks.{tick_injects, ticked}
-use Rattle.board_model.specs.Chips.{ioapic_of}
 use Rattle.board_model.specs.Registry.{RegistryPart}
 use Rattle.board_model.specs.Plan.{Plan, done, see, set as put_part, ◌>>=◌, ◌>>◌}
 use Rattle.board_step.specs.Refusals.{assign_reasons}
 use Rattle.board_step.specs.Registrations.{was_last_resampler}
-use Rattle.board_step.specs.Processors.{all_pins, pins_with}
 
 -- ---- an irqfd ends
 
@@ -71,36 +63,3 @@ falling = do
   before ← see Tick
   put_part Tick (ticked before)
   done (if tick_injects before then None else Some (ticked before).pending)
-
--- ---- a processor's own local APIC
-
--- the local APIC becomes f of what it was, and the value tells something of what it was
-abbrev pub changing : {A : Type 0} → ℕ → (LocalApic → LocalApic) → (LocalApic → A) → Plan A
-changing n f told = do
-  apic ← see (Lapic n)
-  put_part (Lapic n) (f apic)
-  done (told apic)
-
--- the local APIC after a store, and what that brings about
-abbrev pub stored : ℕ → LocalApic → Effect → Plan Effect
-stored n after effect = do
-  put_part (Lapic n) after
-  done effect
-
--- a store to the local APIC, whose value is what it brings about; in another length than 4 nothing is written
-abbrev pub storing : ℕ → ℕ → ℕ → ℕ → Plan Effect
-storing n offset len value = do
-  apic ← see (Lapic n)
-  (if nat_eq len 4 then stored n (store_to apic offset value) (store_effect apic offset value) else done Plain)
-
--- ---- a vector ends
-
--- the pins of the I/O APIC that are marked, in order
-abbrev pub pins_marked : List Bool → List Pin
-pins_marked marks = map pins.Ioapic (filter (λ pin. get_or marks pin false) all_pins)
-
--- the pins of the I/O APIC whose entry has the vector
-abbrev pub pins_seen : ℕ → Plan (List Pin)
-pins_seen vector = do
-  part ← see Ioapic
-  done (pins_with (ioapic_of part) vector)

@@ -13,7 +13,7 @@ ghost use Rattle.board_ack.specs.OnHand.{Adds};
 ghost use Rattle.board_step.specs.Processors.{end_vector, end_of_interrupt, ended_reply};
 ghost use Rattle.board_calls.specs.Done.{SameInHand, FitsShape};
 ghost use Rattle.board_calls.specs.Told.{TellsOn};
-ghost use Rattle.board_calls.specs.Pieces.{changing, pins_marked, pins_seen};
+ghost use Rattle.board_calls.specs.Own.{changing, pins_marked, pins_seen};
 
 use board_ack::ack_pin;
 use board_raise::{Lacks, Parts, Rig};

@@ -3,9 +3,11 @@
 //! The plans stand in `Registrations`, `Ticks` and `Calls` of board_step, the reasons of refusals in its `Refusals`. Reading order
 //! of the definitions here: `Families` (which call has which function), `Done` (what a call in code is to its plan: reply, parts
 //! and wishes are the plan's, or what is lacking is), `Told` (events past their room), `Moved` (holds of pins whose GSI moves),
-//! `Pieces` (the first steps of calls that signal after them).
+//! `Pieces` (the first steps of calls that signal after them), `Accessed` (those of accesses of the guest), `Own`
+//! (those of what a processor does with its own local APIC).
 #![tactic(auto)]
 
+mod acks;
 mod counters;
 mod ends;
 mod families;

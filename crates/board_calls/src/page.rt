@@ -10,7 +10,7 @@ ghost use Rattle.board_step.specs.Refusals.{does_fit};
 ghost use Rattle.lapic.specs.declared.outcome.Effect.TheVariants.{Send};
 ghost use Rattle.board_calls.specs.Done.{Replies, SameInHand, FitsShape};
 ghost use Rattle.board_calls.specs.Told.{TellsOn};
-ghost use Rattle.board_calls.specs.Pieces.{storing};
+ghost use Rattle.board_calls.specs.Own.{storing};
 
 use crate::ends::end_vector;
 use board_raise::{Lacks, Parts, Rig, send};

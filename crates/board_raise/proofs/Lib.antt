@@ -24,3 +24,4 @@ pub mod Manner
 pub mod SignalSteady
 pub mod Counting
 pub mod EffectNamed
+pub mod PowerOn

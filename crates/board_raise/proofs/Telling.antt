@@ -217,7 +217,8 @@ only_apics message takers ns p =
     let each = stays-each message takers ns p.lapics in
     record { held = held-row p (accepted_by message takers ns p.lapics) each.numbers; others = refl; places = each.places; numbers = each.numbers }
 
-same_number : (n : ℕ) (x y : Option LocalApic) → option_map (λ (a : LocalApic). a.number) x ≡ option_map (λ (a : LocalApic). a.number) y → IfSome y (λ a. a.number ≡ n) → IfSome x (λ a. a.number ≡ n)
+-- a local APIC with the number of the one that stood there
+pub same_number : (n : ℕ) (x y : Option LocalApic) → option_map (λ (a : LocalApic). a.number) x ≡ option_map (λ (a : LocalApic). a.number) y → IfSome y (λ a. a.number ≡ n) → IfSome x (λ a. a.number ≡ n)
 same_number n None y h is = tt
 same_number n (Some a) None h is = absurd (some_none h)
   where

@@ -7,6 +7,7 @@
 //! are laws: the contract of each is what holds.
 #![tactic(auto)]
 
+mod accesses;
 mod board_rig;
 mod holding;
 mod lacks;

@@ -1,25 +1,22 @@
 -- The parts at power-on that the code makes; and what parts of a sound board fit.
-use Rattle.std.proofs.Common.{◌≡◌, ℕ, ◌+◌, ◌-◌, ◌<◌, zero, suc, Bool, true, false, true≢false, List, [], ◌∷◌, ◌++◌, map, length, replicate, slice_get, slice_set, Some, None, IfSome, refl, sym, ap, ◌∙◌, subst, arith, add-one}
+use Rattle.std.proofs.Common.{◌≡◌, ℕ, ◌+◌, ◌-◌, ◌<◌, zero, suc, List, [], ◌∷◌, ◌++◌, map, length, replicate, slice_get, slice_set, Some, None, IfSome, refl, sym, ap, ◌∙◌, subst, arith, add-one}
 use Rattle.std.proofs.lemmas.List.{length-map, length-append, length-replicate, map-append}
 use Rattle.std.specs.Prelude.{unwrap_or}
 use Rattle.std.specs.FinSet as set
-use Rattle.std.specs.FinSet.{contains-empty}
 use Rattle.std.specs.declared.option.Option.{Option}
-use Rattle.irq_bits.specs.SetLemmas.{set_below-empty}
-use Rattle.pic_8259a.specs.declared.pair.Pair.{Pair}
 use Rattle.pic_8259a.specs.Pair.{pair_at_power_on}
-use Rattle.ioapic_82093aa.specs.declared.ioapic.Ioapic.{Ioapic}
 use Rattle.ioapic_82093aa.specs.Pins.{ioapic_at_power_on}
-use Rattle.source_levels.specs.Holds.{Holds, hold, hold_cmp, is_high}
-use Rattle.source_levels.proofs.HoldLemmas.{held_where_high}
 use Rattle.lapic.specs.Registers.{LocalApic, power_on}
 use Rattle.board_model.specs.Board.{Board}
+use Rattle.board_model.specs.Chips.{without_pins}
 use Rattle.board_model.specs.Hand.{flat, all_parts}
 use Rattle.irq_base.specs.declared.shape.Shape.{Shape}
 use Rattle.board_model.specs.Published.{published}
 use Rattle.board_raise.specs.declared.board_rig.BoardRig.{BoardRig}
 use Rattle.board_raise.specs.InHand.{parts_of}
-use Rattle.board_raise.specs.Fit.{InLimits, Fits, Pins, PinsFit}
+use Rattle.board_raise.specs.declared.parts.PicPart as pic
+use Rattle.board_raise.specs.declared.parts.IoPart as io
+use Rattle.board_raise.specs.Fit.{InLimits, Fits, Pins, PairFits, IoapicFits, PinsFit}
 use Rattle.board_raise.specs.Send.{numbers_below}
 use Rattle.board_step.specs.Sound.{IsSound}
 use Rattle.board_step.specs.History.{opening}
@@ -61,32 +58,13 @@ put_first : (xs : List (Option LocalApic)) (left : ℕ) (x : Option LocalApic) �
 put_first [] left x = refl
 put_first (y ∷ xs) left x = ap (λ rest. y ∷ rest) (put_first xs left x)
 
--- ---- no pin is held
+-- ---- the chips with pins
 
-not_high : (pin : ℕ) → is_high set.empty pin ≡ false
-not_high pin = by_test (is_high set.empty pin) refl
-  where
-    by_test : (t : Bool) → is_high set.empty pin ≡ t → t ≡ false
-    by_test true high = (let one = held_where_high set.empty pin high in absurd (true≢false (sym one.1 ∙ contains-empty hold_cmp (hold pin one.0))))
-    by_test false low = refl
+pub opens_pic : (part : pic.PicPart) → part.pair ≡ pair_at_power_on → part.levels ≡ set.empty → PairFits part.pair part.levels → OpensPic part
+opens_pic part pair holds fits = record { opens = λ i. record { master = without_pins (pair i).master; slave = without_pins (pair i).slave; holds = holds i }; pins = fits }
 
-opened_pic : OpensPic (record { pair = pair_at_power_on; levels = set.empty })
-opened_pic = record {
-  opens = refl;
-  pins = record {
-    master = sym (set_below-empty 8 (is_high set.empty) (λ n low. not_high n));
-    slave = sym (set_below-empty 8 (λ level. is_high set.empty (level + 8)) (λ n low. not_high (n + 8)));
-  };
-}
-
-opened_ioapic : OpensIoapic (record { ioapic = ioapic_at_power_on; levels = set.empty })
-opened_ioapic = record { opens = refl; pins = sym (set_below-empty 24 (is_high set.empty) (λ n low. not_high n)) }
-
-pub opens_pic : (pair : Pair) (holds : Holds) → pair ≡ pair_at_power_on → holds ≡ set.empty → OpensPic (record { pair = pair; levels = holds })
-opens_pic pair holds p h = subst (λ (x : Pair × Holds). OpensPic (record { pair = x.0; levels = x.1 })) (λ i. (sym p i, sym h i)) opened_pic
-
-pub opens_ioapic : (chip : Ioapic) (holds : Holds) → chip ≡ ioapic_at_power_on → holds ≡ set.empty → OpensIoapic (record { ioapic = chip; levels = holds })
-opens_ioapic chip holds p h = subst (λ (x : Ioapic × Holds). OpensIoapic (record { ioapic = x.0; levels = x.1 })) (λ i. (sym p i, sym h i)) opened_ioapic
+pub opens_ioapic : (part : io.IoPart) → part.ioapic ≡ ioapic_at_power_on → part.levels ≡ set.empty → IoapicFits part.ioapic part.levels → OpensIoapic part
+opens_ioapic part chip holds fits = record { opens = λ i. record { entries = (chip i).entries; selected = (chip i).selected; identity = (chip i).identity; holds = holds i }; pins = fits }
 
 -- ---- the row after one processor more
 

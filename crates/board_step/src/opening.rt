@@ -9,14 +9,11 @@ ghost use Rattle.board_step.specs.Opening.{opening_row, OpensPic, OpensIoapic, O
 use ack_notifiers::Watches;
 use board_raise::{BoardRig, IoPart, LapicRow, Parts, PicPart, RegistryPart, Words};
 use event_counter::Counters;
-use ioapic_82093aa::Ioapic;
 use ioevent_set::IoEvents;
 use irq_base::{NoMemory, Shape};
 use irqfd_set::Irqfds;
 use lapic::Lapic;
-use pic_8259a::Pair;
 use route_table::Table;
-use source_levels::Levels;
 use std::alloc::Global;
 use tick_reinject::TickState;
 
@@ -65,20 +62,14 @@ fn lapics(alloc: Global, cpus: u16) -> Result<LapicRow, NoMemory>
 fn pic() -> PicPart
     ensures { OpensPic result }
 {
-    PicPart {
-        pair: Pair::power_on(),
-        levels: Levels::none(),
-    }
+    PicPart::power_on()
 }
 
 // The I/O APIC at power-on, no pin held.
 fn ioapic() -> IoPart
     ensures { OpensIoapic result }
 {
-    IoPart {
-        ioapic: Ioapic::power_on(),
-        levels: Levels::none(),
-    }
+    IoPart::power_on()
 }
 
 // All parts of a board at power-on, and its words.

@@ -7,7 +7,7 @@ use Rattle.board_model.specs.Published.{routing_of_words}
 use Rattle.board_model.specs.Run.{run_on}
 use Rattle.board_raise.specs.InHand.{parts_of}
 use Rattle.board_step.specs.Processors.{end_vector, ended_reply, end_of_interrupt}
-use Rattle.board_calls.specs.Pieces.{changing}
+use Rattle.board_calls.specs.Own.{changing}
 use Rattle.board_calls.specs.Told.{TellsOn}
 use Rattle.board_calls.proofs.Composed.{does_from, first_lacks}
 use Rattle.board_calls.proofs.Steps.{after_service, eoi_steps}

@@ -8,10 +8,10 @@ use Rattle.board_raise.proofs.Composing.{does_on, stops_first}
 use Rattle.board_ack.specs.Acknowledge.{acknowledge_each}
 use Rattle.board_ack.specs.OnHand.{Adds}
 use Rattle.board_step.specs.Processors.{end_vector}
-use Rattle.board_calls.specs.Pieces.{pins_marked, pins_seen}
+use Rattle.board_calls.specs.Own.{pins_marked, pins_seen}
 use Rattle.board_calls.specs.Told.{TellsOn}
 use Rattle.board_calls.proofs.Telling.{nothing_tells, second_tells}
-use Rattle.board_calls.proofs.Marked.{added_tells}
+use Rattle.board_calls.proofs.Answering.{adds_tells}
 use Rattle.board_calls.proofs.ends.end_vector.Goals as goal
 
 pub returns-in_default-clause-does : goal.returns-in_default-clause-does
@@ -41,7 +41,7 @@ returns-in-Ok-clause-does g c = λ straight.
     (second_tells seen (acknowledge_each routing shape) q ws (λ (_ : Unit {0}). []) (pins_marked c.in-Ok.marks) r vs
     (does_on (λ (marks : List Bool). pins_marked marks) (Ok c.in-Ok.marks) seen (g.R.Rig.held rig) lent lent (g.R.Rig.held mid) ws vs c.parts.ensures.value (g.met.R.Rig.held_with rig lent) (g.met.R.Rig.wishes_with rig lent) (c.in-Ok.ensures ws))
     c.acknowledge_marked.result c.args.events.now.items c.acknowledge_marked.new.events.items s later
-    (added_tells c.args.events.now.items c.acknowledge_marked.new.events.items s later c.acknowledge_marked.result (run_on (acknowledge_each routing shape (pins_marked c.in-Ok.marks)) r vs)
+    (adds_tells c.args.events.now.items c.acknowledge_marked.new.events.items s later c.acknowledge_marked.result (run_on (acknowledge_each routing shape (pins_marked c.in-Ok.marks)) r vs)
     (subst (λ (words : List ℕ). Adds c.acknowledge_marked.result c.args.events.now.items c.acknowledge_marked.new.events.items s later (run_on (acknowledge_each (routing_of_words words) shape (pins_marked c.in-Ok.marks)) r vs))
     (g.met.R.Rig.published_with rig lent) (c.acknowledge_marked.ensures.does straight))))
 

@@ -7,7 +7,7 @@ use Rattle.board_model.specs.Published.{routing_of_words}
 use Rattle.board_model.specs.Run.{run_on}
 use Rattle.board_raise.specs.InHand.{parts_of}
 use Rattle.board_step.specs.Accesses.{store_effects, lapic_store}
-use Rattle.board_calls.specs.Pieces.{storing}
+use Rattle.board_calls.specs.Own.{storing}
 use Rattle.board_calls.specs.Told.{TellsOn}
 use Rattle.board_calls.proofs.Composed.{does_from, first_lacks}
 use Rattle.board_calls.proofs.Steps.{after_store, store_steps}
