@@ -13,3 +13,4 @@ pub mod Accesses
 pub mod Own
 pub mod Marked
 pub mod Telling
+pub mod Asking

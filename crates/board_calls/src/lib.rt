@@ -8,6 +8,7 @@
 #![tactic(auto)]
 
 mod acks;
+mod asks;
 mod counters;
 mod ends;
 mod families;
