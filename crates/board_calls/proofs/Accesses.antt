@@ -13,8 +13,8 @@ use Rattle.board_model.specs.Chips.{PicPart, pair_of, IoapicPart, ioapic_of}
 use Rattle.board_model.specs.Plan.{done, look, reply, ◌>>=◌, ◌>>◌}
 use Rattle.board_raise.proofs.Composing.{bind-assoc}
 use Rattle.board_ack.specs.Acknowledge.{acknowledge, acknowledge_each}
-use Rattle.board_step.specs.Accesses.{pair_written, pair_write, pair_gave, pair_read, resend_written, ioapic_written, ioapic_store}
-use Rattle.board_step.specs.Processors.{pic_pin, cycle_pins}
+use Rattle.board_calls.specs.Accesses.{pair_written, pair_write, pair_gave, pair_read, resend_written, ioapic_written, ioapic_store}
+use Rattle.board_calls.specs.Processors.{pic_pin, cycle_pins}
 use Rattle.board_calls.specs.Accessed.{pair_after, writing, pair_polled, reading, cycling, cycle_answered, ioapic_after, storing}
 
 -- ---- pins are acknowledged

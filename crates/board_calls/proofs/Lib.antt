@@ -11,3 +11,7 @@ pub mod Counts
 pub mod Answering
 pub mod Accesses
 pub mod Ringing
+pub mod Own
+pub mod Marked
+pub mod Telling
+pub mod Asking

@@ -1,26 +1,35 @@
 -- Calls that signal are their first steps and what follows.
-use Rattle.std.proofs.Common.{◌≡◌, ℕ, Bool, true, false, if◌then◌else◌, List, Ok, Err, Some, None, refl}
+use Rattle.std.proofs.Common.{◌≡◌, ℕ, Bool, true, false, nat_eq, if◌then◌else◌, List, Ok, Err, Some, None, refl}
 use Rattle.std.specs.Prelude.{Result}
 use Rattle.std.specs.declared.option.Option.{Option}
 use Rattle.irq_base.specs.Refusals.{first_of}
 use Rattle.irq_base.specs.declared.refusal.Refusal.{Refusal}
 use Rattle.irq_base.specs.declared.reply.Reply.TheVariants.{Done, Removed, Held, Refused}
-use Rattle.irq_base.specs.declared.shape.Part.TheVariants.{Registry, Counters, Tick}
+use Rattle.irq_base.specs.declared.shape.Part.TheVariants.{Registry, Counters, Tick, Lapic}
 use Rattle.irq_base.specs.declared.shape.Shape.{Shape}
 use Rattle.irq_base.specs.declared.status.Status.{Status}
 use Rattle.irq_base.specs.declared.status.Status.TheVariants.{Delivered, Coalesced, Ignored, Lowered}
+use Rattle.irq_bits.specs.Members.{greatest_vector}
 use Rattle.irqfd_set.specs.declared.irqfds.Irqfd.{Irqfd}
 use Rattle.irqfd_set.specs.Rows.{named_row}
+use Rattle.lapic.specs.declared.outcome.Effect.{Effect}
+use Rattle.lapic.specs.declared.outcome.Effect.TheVariants.{Plain}
+use Rattle.lapic.specs.Registers.{LocalApic}
+use Rattle.lapic.specs.Priority.{ended}
+use Rattle.lapic.specs.Offsets.{store_to, store_effect}
 use Rattle.tick_reinject.specs.declared.state.TickState.{TickState}
 use Rattle.tick_reinject.specs.Ticks.{tick_injects, ticked, tick_injected}
 use Rattle.board_model.specs.Registry.{RegistryPart}
 use Rattle.board_model.specs.Routing.{Routing}
-use Rattle.board_model.specs.Plan.{the_reply, Plan, look, put, reply, ◌>>=◌, ◌>>◌}
+use Rattle.board_model.specs.Plan.{the_reply, Plan, done, look, put, reply, ◌>>=◌, ◌>>◌}
 use Rattle.board_raise.specs.Shown.{without_sets}
 use Rattle.board_ack.specs.Ticks.{inject_tick}
+use Rattle.board_calls.specs.Accesses.{store_effects, lapic_stored, lapic_store}
+use Rattle.board_calls.specs.Processors.{end_vector, ended_reply, end_of_interrupt}
 use Rattle.board_calls.specs.Refusals.{assign_reasons}
 use Rattle.board_calls.specs.Registrations.{unless_refused, release, deassigned, deassign, inject_count, assigned, assign}
 use Rattle.board_calls.specs.Ticks.{tick_or_hold, tick}
+use Rattle.board_calls.specs.Own.{changing, stored, storing}
 use Rattle.board_calls.specs.Pieces.{removed, removing, added, adding, falling}
 
 -- ---- an irqfd ends
@@ -71,3 +80,26 @@ noted_alike (Delivered new stood pic) = refl
 noted_alike (Coalesced stood) = refl
 noted_alike (Ignored cause) = refl
 noted_alike Lowered = refl
+
+-- ---- an interrupt ends
+
+-- after the vector went out of service
+abbrev pub after_service : Routing → Shape → Option ℕ → Plan (Unit {0})
+after_service routing shape vector = end_vector routing shape vector >> reply (ended_reply vector)
+
+pub eoi_steps : (routing : Routing) (shape : Shape) (n : ℕ) → (changing n ended (λ apic. greatest_vector apic.isr) >>= after_service routing shape) ≡ end_of_interrupt routing shape n
+eoi_steps routing shape n = refl
+
+-- ---- a store to the local APIC
+
+-- after the registers were written
+abbrev pub after_store : Routing → Shape → ℕ → Effect → Plan (Unit {0})
+after_store routing shape n effect = store_effects routing shape n effect >> reply Done
+
+pub store_steps : (routing : Routing) (shape : Shape) (n offset len value : ℕ) → (storing n offset len value >>= after_store routing shape n) ≡ lapic_store routing shape n offset len value
+store_steps routing shape n offset len value = λ i. look (Lapic n) (λ v. at v (nat_eq len 4) i)
+  where
+    at : (v : LocalApic) (t : Bool) → ((if t then stored n (store_to v offset value) (store_effect v offset value) else done Plain) >>= after_store routing shape n)
+        ≡ ((if t then lapic_stored routing shape n (store_to v offset value) (store_effect v offset value) else done tt) >> reply Done)
+    at v true = refl
+    at v false = refl

@@ -15,7 +15,7 @@ use Rattle.ioevent_set.specs.Rows.{rung_by}
 use Rattle.board_model.specs.Routing.{Routing}
 use Rattle.board_model.specs.Chips.{PicPart, pair_of, with_pair, IoapicPart, ioapic_of, with_ioapic}
 use Rattle.board_model.specs.Plan.{Plan, done, see, set as put_part, ◌>>=◌, ◌>>◌}
-use Rattle.board_step.specs.Processors.{cycle_made}
+use Rattle.board_calls.specs.Processors.{cycle_made}
 
 -- ---- the 8259A pair
 

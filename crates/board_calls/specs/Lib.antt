@@ -10,3 +10,4 @@ pub mod Pieces
 pub mod Families
 pub mod Told
 pub mod Accessed
+pub mod Own

@@ -10,7 +10,7 @@ ghost use Rattle.board_raise.specs.InHand.{parts_of, chips_of};
 ghost use Rattle.board_raise.specs.Shown.{DoesQuietly};
 ghost use Rattle.board_ack.specs.Acknowledge.{acknowledge_each};
 ghost use Rattle.board_ack.specs.OnHand.{Adds};
-ghost use Rattle.board_step.specs.Processors.{pic_pin, cycle_pins};
+ghost use Rattle.board_calls.specs.Processors.{pic_pin, cycle_pins};
 ghost use Rattle.board_calls.specs.Accessed.{cycling, cycle_answered};
 ghost use Rattle.board_calls.specs.Done.{SameInHand, FitsShape};
 ghost use Rattle.board_calls.specs.Told.{TellsOn};

@@ -7,7 +7,7 @@ ghost use Rattle.board_raise.specs.Fit.{PinsFit};
 ghost use Rattle.board_raise.specs.InHand.{parts_of, chips_of};
 ghost use Rattle.board_raise.specs.Shown.{DoesQuietly};
 ghost use Rattle.board_ack.specs.OnHand.{Adds};
-ghost use Rattle.board_step.specs.Accesses.{resend_written, ioapic_store, ioapic_load};
+ghost use Rattle.board_calls.specs.Accesses.{resend_written, ioapic_store, ioapic_load};
 ghost use Rattle.board_calls.specs.Accessed.{storing, due_again};
 ghost use Rattle.board_calls.specs.Done.{Replies, SameInHand, FitsShape};
 ghost use Rattle.board_calls.specs.Told.{TellsOn};

@@ -185,14 +185,14 @@ pub fn is_port(port: u64) -> bool
 }
 
 // Whether an address is one of the I/O APIC.
-fn is_ioapic_address(address: u64) -> bool
+pub(crate) fn is_ioapic_address(address: u64) -> bool
     ensures { result ≡ is_ioapic_address address }
 {
     (0xfec0_0000..=0xfec0_00ff).contains(&address)
 }
 
 // Whether an address is one of the calling processor's own local APIC.
-fn is_lapic_address(address: u64) -> bool
+pub(crate) fn is_lapic_address(address: u64) -> bool
     ensures { result ≡ is_lapic_address address }
 {
     (0xfee0_0000..=0xfee0_0fff).contains(&address)

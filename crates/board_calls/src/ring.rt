@@ -9,7 +9,7 @@ ghost use Rattle.board_model.specs.Run.{Wishes, run_on};
 ghost use Rattle.board_raise.specs.InHand.{parts_of};
 ghost use Rattle.board_raise.specs.Shown.{DoesQuietly, Leaves};
 ghost use Rattle.board_ack.specs.OnHand.{Adds};
-ghost use Rattle.board_step.specs.Accesses.{ring, rung, ring_counter};
+ghost use Rattle.board_calls.specs.Accesses.{ring, rung, ring_counter};
 ghost use Rattle.board_calls.specs.Accessed.{ringing};
 ghost use Rattle.board_calls.specs.Done.{SameInHand, FitsShape};
 ghost use Rattle.board_calls.specs.Told.{TellsOn};

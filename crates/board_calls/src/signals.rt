@@ -10,8 +10,8 @@ ghost use Rattle.board_raise.specs.Fit.{PinsFit};
 ghost use Rattle.board_raise.specs.InHand.{parts_of, chips_of};
 ghost use Rattle.board_raise.specs.Signal.{lower};
 ghost use Rattle.board_ack.specs.OnHand.{Adds};
-ghost use Rattle.board_step.specs.Accesses.{ring_counter};
-ghost use Rattle.board_step.specs.Registrations.{line_set, message_sent, source_of, trigger_written, write};
+ghost use Rattle.board_calls.specs.Accesses.{ring_counter};
+ghost use Rattle.board_calls.specs.Registrations.{line_set, message_sent, source_of, trigger_written, write};
 ghost use Rattle.board_calls.specs.Done.{Replies, SameInHand, FitsShape};
 
 use crate::counters::add;

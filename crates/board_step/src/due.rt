@@ -3,8 +3,8 @@ ghost use Rattle.std.specs.Prelude.{◌≡◌, ◌<◌, length, option_map};
 ghost use Rattle.board_raise.specs.declared.parts.PicPart.{PicPart};
 ghost use Rattle.board_raise.specs.OnRow.{apic_in};
 ghost use Rattle.board_step.specs.Due.{due_by, due_in};
-ghost use Rattle.board_calls.specs.Processors.{lets_through};
 
+use board_calls::hears_pair;
 use board_raise::Parts;
 use lapic::Lapic;
 use pic_8259a::Pair;
@@ -22,37 +22,17 @@ pub enum Due {
     Vector(u8),
 }
 
-// Whether LINT0 lets the pair through: it is not masked, and its mode is ExtINT.
-fn lets_through(lapic: &Lapic) -> bool
-    ensures { result ≡ lets_through lapic.now }
-{
-    let lint0 = lapic.lint0();
-    lint0 >> 16 & 1 == 0 && lint0 >> 8 & 7 == 7
-}
-
-// A copy of the local APIC of that number.
-fn copied(lapic: &Lapic, n: u16) -> Lapic
-    requires { n < 256 }
-    ensures { result ≡ lapic.now }
-{
-    let mut copy = Lapic::power_on(n);
-    copy.copy_from(lapic);
-    copy
-}
-
-// What the local APIC of processor n and the pair would give it. It looks at a copy, since giving changes the local APIC.
+// What the local APIC of processor n and the pair would give it.
 fn due_of(lapic: &Lapic, pair: &Pair, n: u16) -> Due
-    requires { n < 256 }
     ensures { result ≡ due_by n lapic.now pair.now }
 {
-    let mut copy = copied(lapic, n);
-    if copy.take_nmi() {
+    if lapic.has_nmi() {
         return Due::Nmi;
     }
-    if n == 0 && lets_through(lapic) && pair.output() {
+    if hears_pair(lapic, n) && pair.output() {
         return Due::Extint;
     }
-    match copy.give() {
+    match lapic.giveable() {
         None => Due::None,
         Some(vector) => Due::Vector(vector),
     }
@@ -60,8 +40,7 @@ fn due_of(lapic: &Lapic, pair: &Pair, n: u16) -> Due
 
 // What processor n would be given by the parts in hand.
 pub(crate) fn due_in_hand(parts: &Parts, n: u16) -> Due
-    requires place { n < length parts.now.lapics }
-    requires few { n < 256 }
+    requires { n < length parts.now.lapics }
     ensures { result ≡ due_in n (apic_in parts.now.lapics n) (option_map (λ (part : PicPart). part.pair) parts.now.pic) }
 {
     match (parts.lapics.at(n), &parts.pic) {

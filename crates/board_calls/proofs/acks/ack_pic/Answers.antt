@@ -7,7 +7,7 @@ use Rattle.board_raise.specs.InHand.{parts_of}
 use Rattle.board_ack.specs.Acknowledge.{acknowledge, acknowledge_each}
 use Rattle.board_ack.specs.OnHand.{Adds}
 use Rattle.board_ack.proofs.Adding.{nothing_adds}
-use Rattle.board_step.specs.Processors.{pic_pin}
+use Rattle.board_calls.specs.Processors.{pic_pin}
 use Rattle.board_calls.proofs.Answering.{adds_only}
 use Rattle.board_calls.proofs.acks.ack_pic.Goals as goal
 

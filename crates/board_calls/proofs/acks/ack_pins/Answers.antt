@@ -8,7 +8,7 @@ use Rattle.board_raise.proofs.Composing.{stops_first}
 use Rattle.board_ack.specs.Acknowledge.{acknowledge_each}
 use Rattle.board_ack.specs.OnHand.{Adds}
 use Rattle.board_ack.proofs.Adding.{adds_adds}
-use Rattle.board_step.specs.Processors.{pic_pin}
+use Rattle.board_calls.specs.Processors.{pic_pin}
 use Rattle.board_calls.proofs.Accesses.{each_in_turn}
 use Rattle.board_calls.proofs.acks.ack_pins.Goals as goal
 

@@ -6,7 +6,7 @@ use Rattle.board_raise.specs.InHand.{parts_of}
 use Rattle.board_model.specs.Plan.{reply, ◌>>◌}
 use Rattle.board_ack.specs.Acknowledge.{acknowledge_each}
 use Rattle.board_ack.specs.OnHand.{Adds}
-use Rattle.board_step.specs.Processors.{cycle_pins}
+use Rattle.board_calls.specs.Processors.{cycle_pins}
 use Rattle.board_calls.specs.Accessed.{cycling, cycle_answered}
 use Rattle.board_calls.proofs.Composed.{does_from, first_lacks}
 use Rattle.board_calls.proofs.Answering.{answered}

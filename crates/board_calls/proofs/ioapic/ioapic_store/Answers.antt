@@ -3,7 +3,7 @@ use Rattle.std.specs.declared.option.Option.{Option}
 use Rattle.irq_base.specs.declared.reply.Reply.TheVariants.{Done}
 use Rattle.board_model.specs.Plan.{reply, ◌>>◌}
 use Rattle.board_raise.specs.InHand.{parts_of}
-use Rattle.board_step.specs.Accesses.{ioapic_store, resend_written}
+use Rattle.board_calls.specs.Accesses.{ioapic_store, resend_written}
 use Rattle.board_calls.specs.Accessed.{storing}
 use Rattle.board_calls.proofs.Composed.{does_from, first_lacks}
 use Rattle.board_calls.proofs.Answering.{answered}

@@ -4,7 +4,7 @@ use Rattle.board_model.specs.Run.{run_on}
 use Rattle.board_raise.specs.InHand.{parts_of}
 use Rattle.board_ack.specs.OnHand.{Adds}
 use Rattle.board_ack.proofs.Adding.{nothing_adds}
-use Rattle.board_step.specs.Accesses.{resend_written}
+use Rattle.board_calls.specs.Accesses.{resend_written}
 use Rattle.board_calls.proofs.ioapic.resend_written.Goals as goal
 
 pub returns-in-None-clause-does : goal.returns-in-None-clause-does

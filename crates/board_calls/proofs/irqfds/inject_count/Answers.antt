@@ -2,7 +2,7 @@ use Rattle.std.proofs.Common.{Bool, Some, [], subst}
 use Rattle.board_model.specs.Published.{routing_of_words}
 use Rattle.board_model.specs.Run.{run_on}
 use Rattle.board_raise.specs.InHand.{parts_of}
-use Rattle.board_step.specs.Accesses.{ring_counter}
+use Rattle.board_calls.specs.Accesses.{ring_counter}
 use Rattle.board_calls.specs.Told.{TellsOn}
 use Rattle.board_calls.proofs.Answering.{adds_tells}
 use Rattle.board_calls.proofs.irqfds.inject_count.Goals as goal

@@ -7,8 +7,8 @@ use Rattle.board_model.specs.Run.{run_on}
 use Rattle.board_raise.specs.InHand.{parts_of}
 use Rattle.board_ack.specs.Acknowledge.{acknowledge_each}
 use Rattle.board_ack.specs.OnHand.{Adds}
-use Rattle.board_step.specs.Accesses.{pair_write}
-use Rattle.board_step.specs.Processors.{pic_pin}
+use Rattle.board_calls.specs.Accesses.{pair_write}
+use Rattle.board_calls.specs.Processors.{pic_pin}
 use Rattle.board_calls.specs.Accessed.{writing}
 use Rattle.board_calls.proofs.Composed.{does_from, first_lacks}
 use Rattle.board_calls.proofs.Answering.{answered}

@@ -6,7 +6,7 @@ use Rattle.board_model.specs.Plan.{reply}
 use Rattle.board_model.specs.Published.{routing_of_words}
 use Rattle.board_model.specs.Run.{run_on}
 use Rattle.board_raise.specs.InHand.{parts_of}
-use Rattle.board_step.specs.Accesses.{ring, rung}
+use Rattle.board_calls.specs.Accesses.{ring, rung}
 use Rattle.board_calls.specs.Accessed.{ringing}
 use Rattle.board_calls.specs.Told.{TellsOn}
 use Rattle.board_calls.proofs.Composed.{said, does_from, first_lacks}

@@ -11,7 +11,7 @@ use Rattle.board_raise.specs.declared.parts.Parts as code
 use Rattle.board_raise.specs.InHand.{parts_of}
 use Rattle.board_raise.proofs.Composing.{does_on}
 use Rattle.board_ack.specs.OnHand.{Adds}
-use Rattle.board_step.specs.Accesses.{ring_counter}
+use Rattle.board_calls.specs.Accesses.{ring_counter}
 use Rattle.board_calls.proofs.Answering.{leaves_adds}
 use Rattle.board_calls.proofs.ring.ring_counter.Goals as goal
 

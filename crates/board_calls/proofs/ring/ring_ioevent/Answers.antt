@@ -5,7 +5,7 @@ use Rattle.board_model.specs.Plan.{say, ◌>>◌}
 use Rattle.board_model.specs.Published.{routing_of_words}
 use Rattle.board_raise.specs.InHand.{parts_of}
 use Rattle.board_ack.proofs.Adding.{then_adds}
-use Rattle.board_step.specs.Accesses.{ring_counter}
+use Rattle.board_calls.specs.Accesses.{ring_counter}
 use Rattle.board_calls.proofs.Answering.{adds_answered}
 use Rattle.board_calls.proofs.ring.ring_ioevent.Goals as goal
 

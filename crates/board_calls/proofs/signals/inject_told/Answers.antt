@@ -9,8 +9,8 @@ use Rattle.board_raise.specs.InHand.{parts_of}
 use Rattle.board_raise.specs.Shown.{in_event, without_sets}
 use Rattle.board_raise.specs.Signal.{inject}
 use Rattle.board_ack.proofs.Adding.{ends_adds}
-use Rattle.board_step.specs.Accesses.{ring_counter}
-use Rattle.board_step.specs.Registrations.{source_of}
+use Rattle.board_calls.specs.Accesses.{ring_counter}
+use Rattle.board_calls.specs.Registrations.{source_of}
 use Rattle.board_calls.proofs.Composed.{over, ends_then, lacks_at_once}
 use Rattle.board_calls.proofs.signals.inject_told.Goals as goal
 
