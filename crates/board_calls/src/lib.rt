@@ -1,9 +1,11 @@
-//! The calls of devices, registrations and ticks on the parts of a board that a rig holds: each does there what its plan does.
+//! The calls of devices, registrations, ticks and accesses of the guest on the parts of a board that a rig holds: each does
+//! there what its plan does.
 //!
-//! The plans stand in `Registrations`, `Ticks` and `Calls` of board_step, the reasons of refusals in its `Refusals`. Reading order
-//! of the definitions here: `Families` (which call has which function), `Done` (what a call in code is to its plan: reply, parts
-//! and wishes are the plan's, or what is lacking is), `Told` (events past their room), `Moved` (holds of pins whose GSI moves),
-//! `Pieces` (the first steps of calls that signal after them), `Accessed` (those of accesses of the guest).
+//! The plans stand in `Registrations`, `Ticks`, `Accesses`, `Processors` and `Calls` of board_step, the reasons of refusals in
+//! its `Refusals`. Reading order of the definitions here: `Families` (which call has which function), `Done` (what a call in
+//! code is to its plan: reply, parts and wishes are the plan's, or what is lacking is), `Told` (events past their room),
+//! `Moved` (holds of pins whose GSI moves), `Pieces` (the first steps of calls that signal after them), `Accessed` (those of
+//! accesses of the guest).
 #![tactic(auto)]
 
 mod acks;
