@@ -10,9 +10,7 @@ use Rattle.irqfd_set.specs.Rows.{is_named, without_row}
 use Rattle.ioevent_set.specs.declared.row.IoRow.{IoRow}
 use Rattle.board_raise.specs.declared.parts.Parts as code
 use Rattle.board_raise.specs.declared.parts.RegistryPart as registry
-use Rattle.board_raise.specs.declared.parts.PicPart as pic
-use Rattle.board_raise.specs.declared.parts.IoPart as io
-use Rattle.board_raise.specs.Fit.{IrqfdFits, WatchFits, RegistrationsFit, PairFits, IoapicFits, LapicsFit, PinsFit}
+use Rattle.board_raise.specs.Fit.{IrqfdFits, WatchFits, RegistrationsFit, LapicsFit, PinsFit}
 use Rattle.board_raise.specs.InHand.{registry_of, parts_of, chips_of, OnlySignalled}
 use Rattle.board_raise.specs.OnRow.{apic_in}
 use Rattle.board_raise.proofs.Telling.{same_number}
@@ -62,31 +60,9 @@ removed_fits counters old trigger gsi new None after fit = subst (λ (r : regist
 removed_fits counters old trigger gsi new (Some is) after fit =
     subst (λ (r : registry.RegistryPart). RegistrationsFit counters (registry_of r)) (sym after) (fewer_irqfds counters old fit (λ row. not (is_named trigger gsi row)))
 
--- ---- another part
+-- ---- after an acknowledge
 
 module _ (shape : Shape) (p : code.Parts) (fits : FitsShape shape p) where
-  -- a pair whose pins fit
-  pub fits_with_pic : (pic : pic.PicPart) → PairFits pic.pair pic.levels → FitsShape shape (record p { pic = Some pic })
-  fits_with_pic pic fit = record {
-    limits = fits.limits;
-    counters = fits.counters;
-    registrations = fits.registrations;
-    tick = fits.tick;
-    lapics = record { places = fits.lapics.places; numbers = fits.lapics.numbers };
-    pins = record { pic = fit; ioapic = fits.pins.ioapic };
-  }
-
-  -- an I/O APIC whose pins fit
-  pub fits_with_ioapic : (ioapic : io.IoPart) → IoapicFits ioapic.ioapic ioapic.levels → FitsShape shape (record p { ioapic = Some ioapic })
-  fits_with_ioapic ioapic fit = record {
-    limits = fits.limits;
-    counters = fits.counters;
-    registrations = fits.registrations;
-    tick = fits.tick;
-    lapics = record { places = fits.lapics.places; numbers = fits.lapics.numbers };
-    pins = record { pic = fits.pins.pic; ioapic = fit };
-  }
-
   -- a pin was acknowledged, and the pins fit
   pub fits_acked : (new : code.Parts) → OnlyAcked p new → PinsFit (chips_of new) → FitsShape shape new
   fits_acked new kept pins = record {

@@ -11,6 +11,7 @@ pub mod Counts
 pub mod Answering
 pub mod Accesses
 pub mod Ringing
+pub mod Numbers
 pub mod Own
 pub mod Marked
 pub mod Telling

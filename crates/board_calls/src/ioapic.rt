@@ -16,8 +16,9 @@ use board_ack::resend;
 use board_raise::{Lacks, Parts, Rig};
 use irq_base::{Events, Message, Part, Reply, Shape};
 
-/// A processor stores to the I/O APIC, at an offset from its first address: `Done`. A pin whose entry was written sends its
-/// message again where that is due.
+/// A processor stores to the I/O APIC, at an offset from its first address, the value having so many bytes: `Done`. The chip
+/// takes length 4, and of another length nothing. A pin whose entry was written sends its message again where that is due, with
+/// the event `Resent`.
 pub fn ioapic_store<R: Rig>(
     rig: &mut R,
     shape: &Shape,
@@ -45,7 +46,7 @@ pub fn ioapic_store<R: Rig>(
     }
 }
 
-/// A processor loads from the I/O APIC, at an offset from its first address: `Value`.
+/// A processor loads from the I/O APIC, at an offset from its first address: `Value`, which is 0 in another length than 4.
 pub fn ioapic_load(parts: &Parts, offset: u8, len: u8) -> Result<Reply, Lacks>
     requires { PinsFit (chips_of parts.now) }
     ensures { (ws : Wishes) → Replies (ioapic_load offset len) parts.now ws result parts.now ws }

@@ -19,7 +19,9 @@ use crate::ring::ring;
 use board_raise::{Lacks, Parts, Rig};
 use irq_base::{Events, Part, Reply, Shape, Space};
 
-/// A processor writes to a port: `Done`, or `Exit` where the port is none of the pair and no ioeventfd is rung.
+/// A processor writes to a port, the value having so many bytes: `Done`, or `Exit` where the port is none of the pair's and no
+/// ioeventfd is rung. The pair takes length 1, and of another length nothing. A pin that an end of interrupt ended is
+/// acknowledged, with its events.
 pub fn port_out<R: Rig>(
     rig: &mut R,
     shape: &Shape,
@@ -52,7 +54,8 @@ pub fn port_out<R: Rig>(
     }
 }
 
-/// A processor reads a port: `Value`, or `Exit` where the port is none of the pair.
+/// A processor reads a port: `Value`, or `Exit` where the port is none of the pair's. The pair gives 0 in another length than 1.
+/// A pin that a poll ended under automatic EOI is acknowledged, with its events.
 pub fn port_in<R: Rig>(
     rig: &mut R,
     shape: &Shape,
@@ -75,7 +78,8 @@ pub fn port_in<R: Rig>(
     }
 }
 
-/// Processor 0 makes an acknowledge cycle (INTA) of the pair: `Vector` with its vector.
+/// Processor 0 makes an acknowledge cycle (INTA) of the pair: `Vector` with its vector. The pins that count as acknowledged under
+/// automatic EOI are, with their events.
 pub fn inta<R: Rig>(rig: &mut R, shape: &Shape, events: &mut Events) -> Result<Reply, Lacks>
     requires fits { FitsShape shape.now (R.held rig.old) }
     ensures does { R.astray rig.new ≡ false → TellsOn (λ reply. reply ∷ []) result events.old.items events.new.items (parts_of (R.held rig.new)) (R.wishes rig.new) (run_on (inta (routing_of_words (R.published rig.old)) shape.now) (parts_of (R.held rig.old)) (R.wishes rig.old)) }

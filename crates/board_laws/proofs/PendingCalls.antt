@@ -55,7 +55,7 @@ use Rattle.board_calls.specs.Processors.{pins_with, end_vector, ended_reply, end
 use Rattle.board_calls.specs.Accesses.{pair_written, pair_write, pair_gave, pair_read, resend_written, ioapic_written, ioapic_store, ioapic_load, store_effects, lapic_stored, lapic_store, lapic_load, ring_counter, rung, ring, port_out, port_in, store, load}
 use Rattle.board_calls.specs.Calls.{io_row, plan_in_range}
 use Rattle.board_laws.specs.Pending.{sendings_of, is_ack}
-use Rattle.board_step.proofs.SoundCalls.{service_number, store_number}
+use Rattle.board_calls.proofs.Numbers.{service_number, store_number}
 use Rattle.board_laws.proofs.PendingPlans.{same_requests, put_fine, Good, Safe, safe_end, safe_put, put_then, safe_bind, safe_then, safe_if}
 use Rattle.board_laws.proofs.PendingSends.{send_safe}
 use Rattle.board_laws.proofs.PendingSignals.{raise_safe, let_go_safe, lower_safe, inject_safe, resend_safe, inject_tick_safe, acks_safe}

@@ -21,7 +21,7 @@ use Rattle.board_model.specs.Plan.{Plan}
 use Rattle.board_model.specs.Run.{Sending, Wishes, run}
 use Rattle.board_calls.specs.Processors.{cycle_made, given_reply, give, hears_pair, give_of_pair, take_nmi, next_interrupt}
 use Rattle.board_laws.specs.Pending.{sendings_of, takes_by}
-use Rattle.board_step.proofs.SoundCalls.{given_number}
+use Rattle.board_calls.proofs.Numbers.{given_number}
 use Rattle.board_laws.proofs.PendingPlans.{has, at, Fine, after_put, put_fine, IsMade, Good}
 use Rattle.board_laws.proofs.PendingCalls.{cycle_safe}
 

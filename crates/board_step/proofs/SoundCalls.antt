@@ -15,9 +15,10 @@ use Rattle.ioapic_82093aa.specs.declared.registers.Register.{Register}
 use Rattle.ioapic_82093aa.specs.declared.registers.Register.TheVariants as ioregisters
 use Rattle.ioapic_82093aa.specs.Registers.{register_of}
 use Rattle.ioapic_82093aa.specs.Pins.{register_written, write_to}
-use Rattle.lapic.specs.Registers.{LocalApic, register_at}
+use Rattle.board_calls.proofs.Numbers.{service_number, given_number, store_number}
+use Rattle.lapic.specs.Registers.{LocalApic}
 use Rattle.lapic.specs.Priority.{giveable_of, given, without_service}
-use Rattle.lapic.specs.Offsets.{stored_at, store_to}
+use Rattle.lapic.specs.Offsets.{store_to}
 use Rattle.event_counter.specs.Counters.{written}
 use Rattle.board_model.specs.Registry.{RegistryPart}
 use Rattle.board_model.specs.Routing.{Routing}
@@ -102,21 +103,6 @@ write_length io offset value =
         | true ↦ written_length io (register_of io.selected) value
         | false ↦ refl
       ]
-    ]
-
-pub service_number : (a : LocalApic) (vector : Option ℕ) → (without_service a vector).number ≡ a.number
-service_number a None = refl
-service_number a (Some vector) = refl
-
-pub given_number : (a : LocalApic) (vector : Option ℕ) → (given a vector).number ≡ a.number
-given_number a None = refl
-given_number a (Some vector) = refl
-
-pub store_number : (a : LocalApic) (offset value : ℕ) → (store_to a offset value).number ≡ a.number
-store_number a offset value =
-    elim (register_at offset) as (λ o. (stored_at a o value).number ≡ a.number) [
-      | None ↦ refl
-      | Some register ↦ grind (arith, service_number)
     ]
 
 not_over : (a x : ℕ) → nat_lt a x ≡ false → x ≤ a

@@ -1,6 +1,6 @@
 use Rattle.std.proofs.Common.{ap, sym, ◌∙◌, Ok}
 use Rattle.lapic.specs.Registers.{LocalApic}
-use Rattle.board_step.proofs.SoundCalls.{given_number}
+use Rattle.board_calls.proofs.Numbers.{given_number}
 use Rattle.board_calls.specs.Processors.{hears_pair}
 use Rattle.board_calls.specs.Own.{pair_heard}
 use Rattle.board_calls.proofs.Own.{changed_held, changed_fits}

@@ -1,7 +1,7 @@
 use Rattle.std.proofs.Common.{ap, ◌∙◌}
 use Rattle.irq_bits.specs.Members.{greatest_vector}
 use Rattle.lapic.specs.Registers.{LocalApic}
-use Rattle.board_step.proofs.SoundCalls.{service_number}
+use Rattle.board_calls.proofs.Numbers.{service_number}
 use Rattle.board_calls.proofs.Own.{changed_held, changed_fits}
 use Rattle.board_calls.proofs.ends.end_service.Goals as goal
 

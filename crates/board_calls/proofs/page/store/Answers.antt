@@ -1,6 +1,6 @@
 use Rattle.std.proofs.Common.{refl, ap, ◌∙◌}
 use Rattle.lapic.specs.Registers.{LocalApic}
-use Rattle.board_step.proofs.SoundCalls.{store_number}
+use Rattle.board_calls.proofs.Numbers.{store_number}
 use Rattle.board_calls.proofs.Own.{unstored_ends, changed_held, changed_fits}
 use Rattle.board_calls.proofs.page.store.Goals as goal
 
