@@ -1,7 +1,6 @@
 -- Pins that are marked are acknowledged, one after another.
-use Rattle.std.proofs.Common.{◌≡◌, ℕ, zero, suc, ◌+◌, ◌<◌, ◌≤◌, Bool, true, false, cond, List, [], ◌∷◌, ◌++◌, map, filter, get_or, length, get_or-set_same, get_or-set_other, below_more, set, Some, Ok, Err, refl, sym, ap, subst, ◌∙◌, ◌≢◌, arith}
+use Rattle.std.proofs.Common.{◌≡◌, ℕ, zero, suc, ◌+◌, ◌<◌, ◌≤◌, Bool, true, false, cond, List, [], ◌∷◌, ◌++◌, map, filter, get_or, Some, Ok, Err, refl, sym, ap, subst, ◌∙◌, arith}
 use Rattle.std.specs.Prelude.{Result, option_map}
-use Rattle.std.proofs.lemmas.List.{length-set}
 use Rattle.std.proofs.lemmas.List.Elements.{filter-append}
 use Rattle.irq_base.specs.declared.event.Event.{Event}
 use Rattle.irq_base.specs.declared.event.Pin.{Pin}
@@ -31,16 +30,6 @@ use Rattle.board_calls.specs.Processors.{all_pins, pins_with}
 use Rattle.board_calls.specs.Own.{pins_marked, pins_seen}
 
 -- ---- the marks
-
--- one pin more is marked
-pub marked_next : (f : ℕ → Bool) (count : ℕ) (marks : List Bool) (pin : ℕ) (v : Bool) → pin < count → v ≡ f pin → (length marks ≡ count) × ((n : ℕ) → n < pin → get_or marks n false ≡ f n)
-    → (length (set marks pin v) ≡ count) × ((n : ℕ) → n < pin + 1 → get_or (set marks pin v) n false ≡ f n)
-marked_next f count marks pin v below here so_far = (
-  length-set marks pin v ∙ so_far.0,
-  below_more _ _
-      (λ k less. let other : k ≢ pin = omega arith in rw get_or-set_other (so_far.1 k less))
-      (let there : pin < length marks = omega arith in rw get_or-set_same here),
-)
 
 same_below : (p q : ℕ → Bool) (k : ℕ) → ((n : ℕ) → n < k → p n ≡ q n) → filter p (numbers_below k) ≡ filter q (numbers_below k)
 same_below p q zero same = refl
