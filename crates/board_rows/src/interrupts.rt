@@ -70,7 +70,7 @@ fn the_cascade_and_a_watch(rt: HostRuntime) -> Result<(), Fail> {
     let mut board = Board::power_on(rt.alloc(), &shape(1))?;
     let lines = [
         dev(Call::Watch { counter: 3, gsi: 8 }, Reply::Done),
-        line(8, 0, true, delivered(0, 0, true)),
+        set_line(8, 0, true, delivered(0, 0, true)),
         ack(0, Reply::Extint(0x28)),
         out(0xa0, 0x20),
         acked_pic(8),
@@ -111,9 +111,9 @@ fn a_level_pin_of_two_lines(rt: HostRuntime) -> Result<(), Fail> {
         enable(0),
         select(0x24),
         window(0x8051),
-        line(10, 0, true, delivered(1, 0, false)),
-        line(10, 1, true, coalesced(0)),
-        line(10, 0, false, LOWERED),
+        set_line(10, 0, true, delivered(1, 0, false)),
+        set_line(10, 1, true, coalesced(0)),
+        set_line(10, 0, false, LOWERED),
         ack(0, Reply::Vector(0x51)),
         eoi(0, Reply::Ended(0x51)),
         acked_io(10),
@@ -129,11 +129,11 @@ fn masked_edge_and_level(rt: HostRuntime) -> Result<(), Fail> {
     let mut board = Board::power_on(rt.alloc(), &shape(1))?;
     let lines = [
         enable(0),
-        line(16, 0, true, ignored(Cause::Masked)),
+        set_line(16, 0, true, ignored(Cause::Masked)),
         select(0x30),
         window(0x52),
         ack(0, Reply::Nothing),
-        line(17, 0, true, ignored(Cause::Masked)),
+        set_line(17, 0, true, ignored(Cause::Masked)),
         select(0x32),
         window(0x8053),
         resent(17, sent(1, 0, false)),

@@ -61,11 +61,11 @@ fn reroute_under_a_raised_line(rt: HostRuntime) -> Result<(), Fail> {
     let mut board = Board::power_on(rt.alloc(), &shape(1))?;
     let lines = [
         out(0x4d0, 0x60),
-        line(5, 0, true, ignored(Cause::Masked)),
+        set_line(5, 0, true, ignored(Cause::Masked)),
         read(0x20, 0x20),
         reroute(rt.alloc(), &[Row::Pic { gsi: 5, pin: 6 }], Reply::Done)?,
         read(0x20, 0),
-        line(5, 0, false, LOWERED),
+        set_line(5, 0, false, LOWERED),
         read(0x20, 0),
     ];
     assert_eq!(rt; first_wrong(&mut board, &lines), None);
@@ -101,11 +101,11 @@ fn refusals_of_tables_and_arguments(rt: HostRuntime) -> Result<(), Fail> {
             &[Row::Ioapic { gsi: 5, pin: 24 }],
             refused(Refusal::BadRow),
         )?,
-        line(9, 0, true, ignored(Cause::Masked)),
+        set_line(9, 0, true, ignored(Cause::Masked)),
         reroute(rt.alloc(), &[], Reply::Done)?,
-        line(9, 0, false, ignored(Cause::Unrouted)),
-        line(4096, 0, true, refused(Refusal::NoGsi)),
-        line(5, 8, true, refused(Refusal::NoLine)),
+        set_line(9, 0, false, ignored(Cause::Unrouted)),
+        set_line(4096, 0, true, refused(Refusal::NoGsi)),
+        set_line(5, 8, true, refused(Refusal::NoLine)),
         msi(0xfed0_0000, 0x41, refused(Refusal::BadMsi)),
         take(16, refused(Refusal::NoCounter)),
     ];

@@ -142,7 +142,7 @@ pub fn eoi(n: u16, reply: Reply) -> Line {
 }
 
 /// A line of a GSI goes high or low.
-pub fn line(gsi: u16, line: u8, high: bool, reply: Reply) -> Line {
+pub fn set_line(gsi: u16, line: u8, high: bool, reply: Reply) -> Line {
     dev(Call::Line { gsi, line, high }, reply)
 }
 

@@ -1,5 +1,6 @@
 -- One call on a board in code, and limits that are reached (this board's own rule).
-use Rattle.std.specs.Prelude.{◌≡◌, List}
+use Rattle.std.specs.Prelude.{◌≡◌, Bool, true, ◌&&◌, nat_eq, List, Some, None}
+use Rattle.std.specs.declared.option.Option.{Option}
 use Rattle.irq_base.specs.Room.{with_told}
 use Rattle.irq_base.specs.declared.call.Call.{Call}
 use Rattle.irq_base.specs.declared.call.Caller.{Caller}
@@ -19,7 +20,8 @@ pub record Applied (old : Board) (caller : Caller) (call : Call) (done : Done) (
   pub events : now ≡ with_told before told
   pub step : Step old (entry_of caller call done.reply told) new
 
--- a limit of a board's shape that is reached
-abbrev pub IsReached : Board → Spent → Type 0
-IsReached b (Calls at) = (at ≡ b.shape.calls) × (b.length ≡ at)
-IsReached b (Publications at) = (at ≡ b.shape.publications) × (b.publications ≡ at)
+-- whether a limit that barred a call is one of the board's shape, and is reached; none need be
+abbrev pub is_reached : Board → Option Spent → Bool
+is_reached b None = true
+is_reached b (Some (Calls at)) = nat_eq at b.shape.calls && nat_eq b.length at
+is_reached b (Some (Publications at)) = nat_eq at b.shape.publications && nat_eq b.publications at

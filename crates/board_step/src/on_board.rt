@@ -1,7 +1,7 @@
 //! One caller's way to a board on one thread.
-ghost use Rattle.std.specs.Prelude.{◌≡◌, true, IfSome};
+ghost use Rattle.std.specs.Prelude.{◌≡◌, true};
 ghost use Rattle.irq_base.specs.Callers.{is_there};
-ghost use Rattle.board_step.specs.Applied.{IsReached};
+ghost use Rattle.board_step.specs.Applied.{is_reached};
 
 use crate::board::Board;
 use irq_base::{Call, Caller, Done, Events, Face, Spent, Stops};
@@ -15,7 +15,7 @@ pub struct OnBoard<'a> {
     pub caller: Caller,
     pub stops: Stops,
     ghost there: { is_there caller board.now.shape ≡ true },
-    ghost reached: { IfSome stops.last (IsReached board.now) },
+    ghost reached: { is_reached board.now stops.last ≡ true },
 }
 
 impl<'a> Face for OnBoard<'a> {
@@ -46,6 +46,7 @@ impl<'a> Face for OnBoard<'a> {
 
     fn ask(&mut self, call: &Call, events: &mut Events) -> Result<Done, Spent> {
         events.clear();
+        self.board.keeps_sound();
         match self.board.apply(self.caller, call, events) {
             Ok(done) => Ok(done),
             Err(spent) => {

@@ -1,0 +1,35 @@
+use Rattle.std.proofs.Common.{◌≡◌, true, Some, sym, ap, ◌∙◌, subst}
+use Rattle.irq_base.specs.Callers.{is_there}
+use Rattle.board_model.specs.Board.{Board}
+use Rattle.board_step.specs.Applied.{is_reached}
+use Rattle.board_step.proofs.Faces.{spent_reached, never_barred, answered_shape, answered_there, answered_left, answered_place, still_reached}
+use Rattle.board_step.proofs.on_board.OnBoardFace.ask.Goals as goal
+
+pub returns-in-Ok-clause-shape : goal.returns-in-Ok-clause-shape
+returns-in-Ok-clause-shape c = answered_shape c.args.self.now.board.now c.args.self.now.caller c.args.call.now c.in-Ok.done _ _ c.apply.new.self c.in-Ok.ensures.applied
+
+pub returns-in-Ok-clause-place : goal.returns-in-Ok-clause-place
+returns-in-Ok-clause-place c = answered_place c.args.self.now.board.now c.args.self.now.caller c.args.call.now c.in-Ok.done _ _ c.apply.new.self c.in-Ok.ensures.applied
+
+pub returns-in-Ok-clause-left : goal.returns-in-Ok-clause-left
+returns-in-Ok-clause-left c = answered_left c.args.self.now.board.now c.args.self.now.caller c.args.call.now c.in-Ok.done _ _ c.apply.new.self c.in-Ok.ensures.applied c.keeps_sound.ensures.calls
+
+pub returns-in-Err-clause-answers : goal.returns-in-Err-clause-answers
+returns-in-Err-clause-answers c = λ left quiet. absurd (never_barred c.args.self.now.board.now c.args.call.now c.in-Err.spent c.in-Err.ensures.spent left quiet)
+
+pub invariant_of-self : goal.invariant_of-self
+invariant_of-self c =
+    let b = c.args.self.now.board.now in
+    record {
+      there = answered_there b c.args.self.now.caller c.args.call.now c.in-Ok.done _ _ c.apply.new.self c.in-Ok.ensures.applied c.args.self.now.caller c.args.self.now.there;
+      reached = still_reached b c.args.self.now.caller c.args.call.now c.in-Ok.done _ _ c.apply.new.self c.in-Ok.ensures.applied c.args.self.now.stops.last c.args.self.now.reached;
+    }
+
+pub invariant_of-self-in-Err : goal.invariant_of-self-in-Err
+invariant_of-self-in-Err c =
+    let b = c.args.self.now.board.now in
+    let stays : c.apply.new.self ≡ b = c.in-Err.ensures.stays in
+    record {
+      there = subst (λ (x : Board). is_there c.args.self.now.caller x.shape ≡ true) (sym stays) c.args.self.now.there;
+      reached = (λ i. is_reached (stays i) (c.stop.ensures.last i)) ∙ spent_reached b c.args.call.now c.in-Err.spent c.in-Err.ensures.spent;
+    }
