@@ -7,6 +7,7 @@ pub mod Calls
 pub mod Step
 pub mod Reach
 pub mod Publications
+pub mod ReachNow
 pub mod Sound
 pub mod History
 pub mod Laws

@@ -1,9 +1,9 @@
 //! What each call of a board does, as the one-thread board does it in one step, and what a legal history of calls is.
 //!
 //! Reading order of the definitions: `Refusals` (why a call is refused), `Registrations`, `Ticks`, `Processors` and `Accesses`
-//! (what each call does), `Calls` (all of them), `Step` (one call is one step), `Reach`, `Sound`, `History`, and then what holds
-//! of every step: `Laws`, `Publications`; what a body is worth that runs a call on parts in hand: `Bodies`; the board of all
-//! parts: `Whole`, `Opening`, `Owned`, `Due`. What holds along every legal history stands in `board_laws`.
+//! (what each call does), `Calls` (all of them), `Step` (one call is one step), `Reach` and `ReachNow`, `Sound`, `History`, and
+//! then what holds of every step: `Laws`, `Publications`; what a body is worth that runs a call on parts in hand: `Bodies`; the
+//! board of all parts: `Whole`, `Opening`, `Owned`, `Due`. What holds along every legal history stands in `board_laws`.
 //!
 //! `Board` is the board on one thread. The functions without a body are laws: the contract of each is what holds.
 #![tactic(auto)]
@@ -33,7 +33,7 @@ pub use publications::{
     publications_reach_the_registry, reach_is_there, steps_keep_the_frame, steps_show_publications,
     words_stay_along,
 };
-pub use reach::{depends_on_reach, reach_is_table, stays_outside_reach};
+pub use reach::{depends_on_reach, reach_is_now, reach_is_table, stays_outside_reach};
 pub use sound::{histories_keep_sound, opening_is_sound, steps_keep_sound};
 pub use typed::calls_are_typed;
 pub use whole::{
