@@ -74,10 +74,10 @@ module _ (routing : Routing) (shape : Shape) where
   SameAcked (pins.Pic p) part other = Unit {0}
   SameAcked (pins.Ioapic at) part other = SamePin at part other
 
-  part_cleared_same : (pin : ℕ) (part other : IoapicPart) (acked : Pin) → SameAcked acked part other → SamePin pin part other → SamePin pin (part_cleared routing shape part acked) (part_cleared routing shape other acked)
+  part_cleared_same : (pin : ℕ) (part other : IoapicPart) (acked : Pin) → SameAcked acked part other → SamePin pin part other → SamePin pin (part_cleared part acked) (part_cleared other acked)
   part_cleared_same pin part other (pins.Pic p) own h = h
   part_cleared_same pin part other (pins.Ioapic at) own h =
-      subst (λ (e : Entry). SamePin pin (part_cleared routing shape part (pins.Ioapic at)) (if e.level then with_ioapic other (pin_acked (ioapic_of other) at) else other)) (sym own.entry)
+      subst (λ (e : Entry). SamePin pin (part_cleared part (pins.Ioapic at)) (if e.level then with_ioapic other (pin_acked (ioapic_of other) at) else other)) (sym own.entry)
       (by_test (entry_at (ioapic_of part) at).level)
     where
       by_test : (t : Bool) → SamePin pin (if t then with_ioapic part (pin_acked (ioapic_of part) at) else part) (if t then with_ioapic other (pin_acked (ioapic_of other) at) else other)
@@ -120,7 +120,7 @@ module _ (routing : Routing) (shape : Shape) where
   now_same b c acked q registry ticks h = λ i.
       of_marked routing shape gsi q
       || (level_same (freed routing shape b gsi) (freed routing shape c gsi) acked q (own acked (λ t is. h t (inl is))) i
-      || tick_same (cleared routing shape (freed routing shape b gsi) acked) (cleared routing shape (freed routing shape c gsi) acked) gsi q ticks
+      || tick_same (cleared (freed routing shape b gsi) acked) (cleared (freed routing shape c gsi) acked) gsi q ticks
       (λ t is has. part_cleared_same t (part_freed routing shape b gsi) (part_freed routing shape c gsi) acked (own acked (λ t is. h t (inl is))) (part_freed_same t b c gsi registry (h t (inr (is, has))))) i)
     where
       gsi : Option ℕ

@@ -310,22 +310,22 @@ module _ (routing : Routing) (shape : Shape) where
 
     -- what was sent again leaves nothing that the next tick sends besides
     sent_again_same : (c : Board) → c.tick ≡ b.tick → SentAgain b.ioapic c.ioapic pin
-        → (of_level routing shape b (pins.Ioapic pin) q || of_tick routing shape c gsi q) ≡ (of_level routing shape b (pins.Ioapic pin) q || of_tick routing shape (cleared routing shape b (pins.Ioapic pin)) gsi q)
+        → (of_level routing shape b (pins.Ioapic pin) q || of_tick routing shape c gsi q) ≡ (of_level routing shape b (pins.Ioapic pin) q || of_tick routing shape (cleared b (pins.Ioapic pin)) gsi q)
     sent_again_same c ticks s =
         (λ i. level i || tick_by c again gsi q ticks s.ioapic i)
         ∙ ticks_no_more s.message s.again gsi
-        ∙ sym (λ i. level i || tick_by (cleared routing shape b (pins.Ioapic pin)) clear gsi q refl (ap (λ t. if t then with_ioapic b.ioapic (pin_acked chip pin) else b.ioapic) s.level) i)
+        ∙ sym (λ i. level i || tick_by (cleared b (pins.Ioapic pin)) clear gsi q refl (ap (λ t. if t then with_ioapic b.ioapic (pin_acked chip pin) else b.ioapic) s.level) i)
       where
         level : of_level routing shape b (pins.Ioapic pin) q ≡ (is_same Ioapic q || of_message s.message None shape.cpus q)
         level = λ i. is_same Ioapic q || (s.level i && of_resend routing shape (s.again i) q)
 
   ended_same : (b : Board) (ws : Wishes) (pin : Pin) (gsi : Option ℕ) (q : Part) → (of_level routing shape b pin q || of_tick routing shape (run (end_level shape.cpus pin) b ws).board gsi q)
-      ≡ (of_level routing shape b pin q || of_tick routing shape (cleared routing shape b pin) gsi q)
-  ended_same b ws (pins.Pic pin) gsi q = ap (λ r. of_level routing shape b (pins.Pic pin) q || r) (tick_by b (cleared routing shape b (pins.Pic pin)) gsi q refl refl)
+      ≡ (of_level routing shape b pin q || of_tick routing shape (cleared b pin) gsi q)
+  ended_same b ws (pins.Pic pin) gsi q = ap (λ r. of_level routing shape b (pins.Pic pin) q || r) (tick_by b (cleared b (pins.Pic pin)) gsi q refl refl)
   ended_same b ws (pins.Ioapic pin) gsi q =
       let ends = level_ends shape.cpus pin b ws in
       elim ends.ioapic [
-        | inl same ↦ ap (λ r. of_level routing shape b (pins.Ioapic pin) q || r) (tick_by (run (end_level shape.cpus (pins.Ioapic pin)) b ws).board (cleared routing shape b (pins.Ioapic pin)) gsi q ends.tick same)
+        | inl same ↦ ap (λ r. of_level routing shape b (pins.Ioapic pin) q || r) (tick_by (run (end_level shape.cpus (pins.Ioapic pin)) b ws).board (cleared b (pins.Ioapic pin)) gsi q ends.tick same)
         | inr s ↦ sent_again_same b pin gsi q (run (end_level shape.cpus (pins.Ioapic pin)) b ws).board ends.tick s
       ]
 
@@ -335,7 +335,7 @@ module _ (routing : Routing) (shape : Shape) where
       (ap (λ c. of_level routing shape told pin q || of_tick routing shape c gsi q) (ap (λ (o : Outcome (Unit {0})). o.board) (run-bind (λ _. end_level shape.cpus pin) tell b []))
       ∙ ended_same told (run tell b []).wishes pin gsi q
       ∙ (λ i. level_by told (freed routing shape b gsi) pin q holds.ioapic i
-      || tick_by (cleared routing shape told pin) (cleared routing shape (freed routing shape b gsi) pin) gsi q holds.tick (ap (λ part. part_cleared routing shape part pin) holds.ioapic) i))
+      || tick_by (cleared told pin) (cleared (freed routing shape b gsi) pin) gsi q holds.tick (ap (λ part. part_cleared part pin) holds.ioapic) i))
     where
       gsi : Option ℕ
       gsi = routing.gsi_of pin

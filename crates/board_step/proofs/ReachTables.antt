@@ -9,6 +9,7 @@ use Rattle.irq_bits.specs.Members.{greatest_vector}
 use Rattle.irq_base.specs.Refusals.{first_of}
 use Rattle.irq_base.specs.declared.call.Call.{Call}
 use Rattle.irq_base.specs.declared.call.Call.TheVariants as calls
+use Rattle.irq_base.specs.declared.call.Caller.{Caller}
 use Rattle.irq_base.specs.declared.call.Space.{Space}
 use Rattle.irq_base.specs.declared.call.Space.TheVariants as spaces
 use Rattle.irq_base.specs.declared.event.Pin.{Pin}
@@ -47,7 +48,8 @@ use Rattle.board_step.specs.Refusals.{is_ioapic_address, is_lapic_address, range
 use Rattle.board_step.specs.Processors.{all_pins, pins_with, pic_pin, cycle_pins, hears_pair}
 use Rattle.board_step.specs.Calls.{number_of}
 use Rattle.board_step.specs.Reach as table
-use Rattle.board_step.specs.ReachNow.{of_acknowledges_now}
+use Rattle.board_step.specs.Reach.{reach}
+use Rattle.board_step.specs.ReachNow.{of_acknowledges_now, reach_now}
 use Rattle.board_step.specs.Laws.{ReachIsNow}
 use Rattle.board_step.proofs.CountingPins.{gsi_has_pin}
 use Rattle.board_step.proofs.ReachPins.{MarksResamplers}
@@ -250,7 +252,11 @@ module _ (routing : Routing) (shape : Shape) (tells : TellsPins routing shape) (
   call_now n calls.Inta = ap (λ t. is_same Pic q || t) cycle_now
   call_now n calls.Eoi = ap (λ t. is_same (Lapic n) q || t) (end_now (greatest_vector (part_of b (Lapic n)).isr))
 
-pub reach_is_now : ReachIsNow
-reach_is_now b caller call q sound =
+-- where the registry is sound
+pub reach_by_registry : (b : Board) (caller : Caller) (call : Call) (q : Part) → IsSoundRegistry b.registry b.shape.tick → reach b caller call q ≡ reach_now b caller call q
+reach_by_registry b caller call q sound =
     ap (λ t. not (is_some (first_of (range_reasons b.shape call))) && t)
-    (call_now (routing_of_registry b.registry b.shape.tick) b.shape (tells_pins b.registry b.shape.tick b.shape sound.registry) b (marks_resamplers b) q (number_of caller) call)
+    (call_now (routing_of_registry b.registry b.shape.tick) b.shape (tells_pins b.registry b.shape.tick b.shape sound) b (marks_resamplers b) q (number_of caller) call)
+
+pub reach_is_now : ReachIsNow
+reach_is_now b caller call q sound = reach_by_registry b caller call q sound.registry

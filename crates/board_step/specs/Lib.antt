@@ -15,4 +15,5 @@ pub mod Bodies
 pub mod Whole
 pub mod Opening
 pub mod Owned
+pub mod Seen
 pub mod Due

@@ -23,6 +23,14 @@ abbrev pub pin_freed : IoapicPart → Option ℕ → IoapicPart
 pin_freed part None = part
 pin_freed part (Some pin) = ioapic_let_go part pin Resample
 
+-- the I/O APIC once remote IRR of the pin is cleared, where its entry is level-triggered; nothing is sent again
+abbrev pub part_cleared : IoapicPart → Pin → IoapicPart
+part_cleared part (pins.Pic pin) = part
+part_cleared part (pins.Ioapic pin) = entry_ended part pin
+
+abbrev pub cleared : Board → Pin → Board
+cleared b pin = record b { ioapic = part_cleared b.ioapic pin }
+
 module _ (routing : Routing) (shape : Shape) where
   -- the I/O APIC once Resample has let go of the GSI's pin, where the GSI has resamplers
   abbrev pub part_freed : Board → Option ℕ → IoapicPart
@@ -32,14 +40,6 @@ module _ (routing : Routing) (shape : Shape) where
   -- the board with that I/O APIC
   abbrev pub freed : Board → Option ℕ → Board
   freed b gsi = record b { ioapic = part_freed b gsi }
-
-  -- the I/O APIC once remote IRR of the pin is cleared, where its entry is level-triggered; nothing is sent again
-  abbrev pub part_cleared : IoapicPart → Pin → IoapicPart
-  part_cleared part (pins.Pic pin) = part
-  part_cleared part (pins.Ioapic pin) = entry_ended part pin
-
-  abbrev pub cleared : Board → Pin → Board
-  cleared b pin = record b { ioapic = part_cleared b.ioapic pin }
 
   -- what the acknowledge of a pin reaches: a marked GSI's parts; what its entry sends again, Resample gone; and what the next
   -- tick reaches where it is injected, Resample gone and remote IRR clear

@@ -1,5 +1,6 @@
 //! A whole board on one thread.
-ghost use Rattle.std.specs.Prelude.{◌≡◌, ◌<◌, ◌↔◌, IfOk, IsErrOf, Err};
+ghost use Rattle.std.specs.Prelude.{◌≡◌, ◌<◌, ◌↔◌, true, IfOk, IsErrOf, Err};
+ghost use Rattle.irq_base.specs.Callers.{is_allowed};
 ghost use Rattle.board_model.specs.Run.{Wishes};
 ghost use Rattle.board_model.specs.Published.{published};
 ghost use Rattle.board_model.specs.Hand.{all_parts};
@@ -9,14 +10,16 @@ ghost use Rattle.board_raise.specs.InHand.{parts_of, chips_of};
 ghost use Rattle.board_step.specs.declared.open.OpenError.TheVariants as errors;
 ghost use Rattle.board_step.specs.Due.{AnswersDue};
 ghost use Rattle.board_step.specs.History.{opening};
+ghost use Rattle.board_step.specs.Reach.{reach};
 ghost use Rattle.board_step.specs.Sound.{IsSound};
 ghost use Rattle.board_step.specs.Whole.{IsWhole, board_of};
 
 use crate::due::{Due, due_in_hand};
 use crate::open::OpenError;
 use crate::opening::{is_in_limits, rig};
+use crate::reach_calls::reach_in_hand;
 use board_raise::{BoardRig, Parts, Words};
-use irq_base::{NoMemory, Shape};
+use irq_base::{Call, Caller, NoMemory, Part, Shape};
 use std::alloc::Global;
 use std::marker::Model;
 
@@ -107,6 +110,15 @@ impl Board {
         ensures { (ws : Wishes) → AnswersDue self.now cpu result ws }
     {
         due_in_hand(self.rig.all(), cpu)
+    }
+
+    /// Whether a call by that caller would reach the part: look at it, or change it. It tells what the board is now, and it runs
+    /// nothing: whom a message is given to makes no difference. To read where GSIs, pins and triggers go reaches no part.
+    pub fn reach(&self, caller: Caller, call: &Call, part: Part) -> bool
+        requires { is_allowed caller call.now self.now.shape ≡ true }
+        ensures { result ≡ reach self.now caller call.now part }
+    {
+        reach_in_hand(self.rig.all(), &self.shape, caller, call, part)
     }
 
     /// All its parts, which fit its shape, and the words that it publishes.

@@ -3,7 +3,7 @@
 //! Reading order of the definitions: `Refusals` (why a call is refused), `Registrations`, `Ticks`, `Processors` and `Accesses`
 //! (what each call does), `Calls` (all of them), `Step` (one call is one step), `Reach` and `ReachNow`, `Sound`, `History`, and
 //! then what holds of every step: `Laws`, `Publications`; what a body is worth that runs a call on parts in hand: `Bodies`; the
-//! board of all parts: `Whole`, `Opening`, `Owned`, `Due`. What holds along every legal history stands in `board_laws`.
+//! board of all parts: `Whole`, `Opening`, `Owned`, `Due`, `Seen`. What holds along every legal history stands in `board_laws`.
 //!
 //! `Board` is the board on one thread. The functions without a body are laws: the contract of each is what holds.
 #![tactic(auto)]
@@ -15,7 +15,14 @@ mod laws;
 mod open;
 mod opening;
 mod publications;
+mod range;
 mod reach;
+mod reach_accesses;
+mod reach_acks;
+mod reach_calls;
+mod reach_registrations;
+mod reach_signals;
+mod seen;
 mod sound;
 mod typed;
 mod whole;
