@@ -1,5 +1,5 @@
 -- What is read of the parts of a board.
-use Rattle.std.proofs.Common.{◌≡◌, ℕ, zero, suc, ◌+◌, ◌<◌, Bool, true, false, cond, map, filter, ◌&&◌, ◌||◌, nat_eq, nat_lt, if◌then◌else◌, List, [], ◌∷◌, ◌++◌, refl, sym, ap, ◌∙◌, arith}
+use Rattle.std.proofs.Common.{◌≡◌, ℕ, zero, suc, ◌<◌, Bool, true, false, cond, map, filter, ◌&&◌, ◌||◌, nat_eq, nat_lt, if◌then◌else◌, List, [], ◌∷◌, ◌++◌, refl, sym, ap, ◌∙◌, arith}
 use Rattle.std.specs.List.{list_any}
 use Rattle.std.specs.Cmp.{unsigned_Decides}
 use Rattle.std.proofs.lemmas.Bool.Decides.{nat_tests}
@@ -91,9 +91,6 @@ module _ {X : Type 0} (f : X → Bool) (c : ℕ → X) (g : ℕ → Bool) where
 -- one of the numbers below another passes
 abbrev pub any_below : (ℕ → Bool) → ℕ → Bool
 any_below p n = list_any p (numbers_below n)
-
-pub any_next : (p : ℕ → Bool) (n : ℕ) → any_below p n ≡ false → p n ≡ false → any_below p (n + 1) ≡ false
-any_next p n none here = let one : n + 1 ≡ suc n = omega arith in ap (any_below p) one ∙ any_more p (numbers_below n) (n ∷ []) ∙ (λ i. none i || (here i || false))
 
 pub any_found : (p : ℕ → Bool) (n k : ℕ) → k < n → p k ≡ true → any_below p n ≡ true
 any_found p zero k below here = absurd (omega (arith, below))
