@@ -29,5 +29,5 @@ mod ticks;
 pub use asks::hears_pair;
 pub use families::{device_call, registration, tick_call};
 pub use guest::{guest_access, processor_call};
-pub use range::refused_by_range;
+pub use range::{is_ioapic_address, is_lapic_address, is_port, refused_by_range};
 pub use refusals::{assign_refusal, unwatch_refusal, watch_refusal};

@@ -184,15 +184,15 @@ pub fn is_port(port: u64) -> bool
     port == 0x20 || port == 0x21 || port == 0xa0 || port == 0xa1 || port == 0x4d0 || port == 0x4d1
 }
 
-// Whether an address is one of the I/O APIC.
-pub(crate) fn is_ioapic_address(address: u64) -> bool
+/// Whether an address is one of the I/O APIC (82093AA data sheet).
+pub fn is_ioapic_address(address: u64) -> bool
     ensures { result ≡ is_ioapic_address address }
 {
     (0xfec0_0000..=0xfec0_00ff).contains(&address)
 }
 
-// Whether an address is one of the calling processor's own local APIC.
-pub(crate) fn is_lapic_address(address: u64) -> bool
+/// Whether an address is one of the calling processor's own local APIC (SDM volume 3).
+pub fn is_lapic_address(address: u64) -> bool
     ensures { result ≡ is_lapic_address address }
 {
     (0xfee0_0000..=0xfee0_0fff).contains(&address)

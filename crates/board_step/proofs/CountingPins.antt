@@ -28,7 +28,7 @@ found_passes {X} p (y ∷ ys) x h = elim (p y) as (λ t. p y ≡ t → cond t (S
   | false ↦ λ _ e. found_passes p ys x e
 ] refl h
 
-gsi_has_pin : (table : Table) (pin : Pin) (gsi : ℕ) → gsi_of table pin ≡ Some gsi → has_pin pin (targets_of table gsi) ≡ true
+pub gsi_has_pin : (table : Table) (pin : Pin) (gsi : ℕ) → gsi_of table pin ≡ Some gsi → has_pin pin (targets_of table gsi) ≡ true
 unfolding gsi_of
 gsi_has_pin table pin gsi h = found_passes (λ gsi. has_pin pin (targets_of table gsi)) (finmap.keys table) gsi h
 

@@ -20,6 +20,7 @@ use Rattle.board_model.specs.Run.{Wishes, Outcome, run}
 use Rattle.board_model.specs.Agreement.{SameFrame}
 use Rattle.board_model.proofs.Sequence.{run-bind}
 use Rattle.board_model.proofs.Staying.{frame_stays}
+use Rattle.board_ack.specs.ReachLaws.{of_acknowledge_each}
 use Rattle.board_calls.specs.Refusals.{range_reasons}
 use Rattle.board_calls.specs.Registrations.{unless_refused, inject_count, assigned, was_last_resampler, release, deassigned}
 use Rattle.board_calls.specs.Calls.{number_of, plan_in_range}
@@ -113,7 +114,7 @@ steps_show_publications b e c step = shows b e.caller step.wishes e.call e.reply
 
 -- ---- the registry is reached
 
-reaches_in_range : (b : Board) (n : ℕ) (call : Call) → does_publish b call ≡ true → of_call (routing_of_registry b.registry b.shape.tick) b.shape b n call Registry ≡ true
+reaches_in_range : (b : Board) (n : ℕ) (call : Call) → does_publish b call ≡ true → of_call of_acknowledge_each (routing_of_registry b.registry b.shape.tick) b.shape b n call Registry ≡ true
 reaches_in_range b n (calls.Reroute rows) is = refl
 reaches_in_range b n (calls.Assign trigger gsi resample) is = refl
 reaches_in_range b n (calls.Watch counter gsi) is = refl
@@ -126,7 +127,7 @@ publications_reach_the_registry b caller call = by_refusal (refusal_of b call) r
   where
     by_refusal : (refused : Option Refusal) → refusal_of b call ≡ refused → publishes_unless refused b call ≡ true → reach b caller call Registry ≡ true
     by_refusal None is publishes =
-        ap (λ o. not (is_some o) && of_call (routing_of_registry b.registry b.shape.tick) b.shape b (number_of caller) call Registry) (none_of_both (range_reasons b.shape call) (later_reasons b call) is).0
+        ap (λ o. not (is_some o) && of_call of_acknowledge_each (routing_of_registry b.registry b.shape.tick) b.shape b (number_of caller) call Registry) (none_of_both (range_reasons b.shape call) (later_reasons b call) is).0
         ∙ reaches_in_range b (number_of caller) call publishes
     by_refusal (Some refusal) is publishes = cc
 

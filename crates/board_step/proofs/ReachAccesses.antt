@@ -155,7 +155,7 @@ module _ (routing : Routing) (shape : Shape) (q : Part) where
       ≡ (is_same Pic q || acks.of_acknowledge_each routing shape b acked q)
   answered_reach pic acked r b ws = ap (λ x. is_same Pic q || (is_same Pic q || x)) (replied q (acknowledge_each routing shape acked) r (with_part b Pic pic) ws) ∙ written_reach pic acked b ws
 
-  pair_write_reach : (port len value : ℕ) (b : Board) (ws : Wishes) → reaches (accesses.pair_write routing shape port len value) b ws q ≡ table.of_pair routing shape b len (pair_write_to (pair_of b.pic) port value).pin q
+  pair_write_reach : (port len value : ℕ) (b : Board) (ws : Wishes) → reaches (accesses.pair_write routing shape port len value) b ws q ≡ table.of_pair acks.of_acknowledge_each routing shape b len (pair_write_to (pair_of b.pic) port value).pin q
   pair_write_reach port len value b ws =
       ap (λ x. is_same Pic q || x) (replied q (if nat_eq len 1 then accesses.pair_written routing shape b.pic effect else done tt) Done b ws)
       ∙ (elim (nat_eq len 1) as (λ t. (is_same Pic q || reaches (if t then accesses.pair_written routing shape b.pic effect else done tt) b ws q) ≡ (is_same Pic q || (t && acks.of_acknowledge_each routing shape b (pic_pin effect.pin) q))) [
@@ -166,7 +166,7 @@ module _ (routing : Routing) (shape : Shape) (q : Part) where
       effect : Effect Pair
       effect = pair_write_to (pair_of b.pic) port value
 
-  pair_read_reach : (port len : ℕ) (b : Board) (ws : Wishes) → reaches (accesses.pair_read routing shape port len) b ws q ≡ table.of_pair routing shape b len (pair_read_from (pair_of b.pic) port).pin q
+  pair_read_reach : (port len : ℕ) (b : Board) (ws : Wishes) → reaches (accesses.pair_read routing shape port len) b ws q ≡ table.of_pair acks.of_acknowledge_each routing shape b len (pair_read_from (pair_of b.pic) port).pin q
   pair_read_reach port len b ws = elim (nat_eq len 1) as (λ t. (is_same Pic q || reaches (if t then accesses.pair_gave routing shape b.pic gave else reply (Value 0)) b ws q) ≡ (is_same Pic q || (t && acks.of_acknowledge_each routing shape b (pic_pin gave.pin) q))) [
     | true ↦ answered_reach (with_pair b.pic gave.after) (pic_pin gave.pin) (Value gave.value) b ws
     | false ↦ refl
@@ -177,29 +177,29 @@ module _ (routing : Routing) (shape : Shape) (q : Part) where
 
   -- ---- writes to no chip
 
-  counter_reach : (counter : ℕ) (trigger : Option TriggerWord) (b : Board) (ws : Wishes) → reaches (accesses.ring_counter routing shape counter trigger) b ws q ≡ table.of_counter routing shape b trigger q
+  counter_reach : (counter : ℕ) (trigger : Option TriggerWord) (b : Board) (ws : Wishes) → reaches (accesses.ring_counter routing shape counter trigger) b ws q ≡ table.of_counter acks.of_acknowledge_each routing shape b trigger q
   counter_reach counter None b ws = twice (is_same Counters q) false ∙ or_false _
   counter_reach counter (Some trigger) b ws =
       dropped q (inject shape.cpus (routing.targets trigger.gsi) (source_of trigger.resample) (λ pic. injected trigger.gsi pic)) b ws
       ∙ inject_reach trigger.gsi (source_of trigger.resample) (λ pic. injected trigger.gsi pic) b ws
 
-  rung_reach : (rung : Option ℕ) (b : Board) (ws : Wishes) → reaches (accesses.rung routing shape rung) b ws q ≡ table.of_rung routing shape b rung q
+  rung_reach : (rung : Option ℕ) (b : Board) (ws : Wishes) → reaches (accesses.rung routing shape rung) b ws q ≡ table.of_rung acks.of_acknowledge_each routing shape b rung q
   rung_reach None b ws = refl
   rung_reach (Some counter) b ws = replied q (accesses.ring_counter routing shape counter (routing.trigger counter)) Done b ws ∙ counter_reach counter (routing.trigger counter) b ws
 
-  ring_reach : (space : Space) (address len value : ℕ) (b : Board) (ws : Wishes) → reaches (accesses.ring routing shape space address len value) b ws q ≡ table.of_ring routing shape b space address len value q
+  ring_reach : (space : Space) (address len value : ℕ) (b : Board) (ws : Wishes) → reaches (accesses.ring routing shape space address len value) b ws q ≡ table.of_ring acks.of_acknowledge_each routing shape b space address len value q
   ring_reach space address len value b ws = ap (λ x. is_same Registry q || x) (rung_reach (rung_by b.registry.ioevents space address len value) b ws)
 
-  pub port_out_reach : (port len value n : ℕ) (b : Board) (ws : Wishes) → reaches (accesses.port_out routing shape port len value) b ws q ≡ table.of_call routing shape b n (calls.PortOut port len value) q
+  pub port_out_reach : (port len value n : ℕ) (b : Board) (ws : Wishes) → reaches (accesses.port_out routing shape port len value) b ws q ≡ table.of_call acks.of_acknowledge_each routing shape b n (calls.PortOut port len value) q
   port_out_reach port len value n b ws = elim (is_port port) as (λ t. reaches (if t then accesses.pair_write routing shape port len value else accesses.ring routing shape spaces.Port port len value) b ws q
-      ≡ (if t then table.of_pair routing shape b len (pair_write_to (pair_of b.pic) port value).pin q else table.of_ring routing shape b spaces.Port port len value q)) [
+      ≡ (if t then table.of_pair acks.of_acknowledge_each routing shape b len (pair_write_to (pair_of b.pic) port value).pin q else table.of_ring acks.of_acknowledge_each routing shape b spaces.Port port len value q)) [
         | true ↦ pair_write_reach port len value b ws
         | false ↦ ring_reach spaces.Port port len value b ws
       ]
 
-  pub port_in_reach : (port len n : ℕ) (b : Board) (ws : Wishes) → reaches (accesses.port_in routing shape port len) b ws q ≡ table.of_call routing shape b n (calls.PortIn port len) q
+  pub port_in_reach : (port len n : ℕ) (b : Board) (ws : Wishes) → reaches (accesses.port_in routing shape port len) b ws q ≡ table.of_call acks.of_acknowledge_each routing shape b n (calls.PortIn port len) q
   port_in_reach port len n b ws = elim (is_port port) as (λ t. reaches (if t then accesses.pair_read routing shape port len else reply Exit) b ws q
-      ≡ (if t then table.of_pair routing shape b len (pair_read_from (pair_of b.pic) port).pin q else false)) [
+      ≡ (if t then table.of_pair acks.of_acknowledge_each routing shape b len (pair_read_from (pair_of b.pic) port).pin q else false)) [
         | true ↦ pair_read_reach port len b ws
         | false ↦ refl
       ]
@@ -207,17 +207,17 @@ module _ (routing : Routing) (shape : Shape) (q : Part) where
   -- ---- accesses to the I/O APIC
 
   pin_written_reach : (part : IoapicPart) (after : IoapicChip) (pin : Option ℕ) (b : Board) (ws : Wishes)
-      → (is_same Ioapic q || reaches (accesses.resend_written shape pin) (with_part b Ioapic (with_ioapic part after)) ws q) ≡ (is_same Ioapic q || table.of_written routing shape part (record { after = after; pin = pin }) q)
+      → (is_same Ioapic q || reaches (accesses.resend_written shape pin) (with_part b Ioapic (with_ioapic part after)) ws q) ≡ (is_same Ioapic q || table.of_written acks.of_acknowledge_each routing shape part (record { after = after; pin = pin }) q)
   pin_written_reach part after None b ws = refl
   pin_written_reach part after (Some pin) b ws =
       twice (is_same Ioapic q) _
       ∙ resend_reach routing shape q pin (resend_of (ioapic_of (with_ioapic part after)) pin) (with_part b Ioapic (with_ioapic part after)) ws
 
   ioapic_store_reach : (offset len value : ℕ) (b : Board) (ws : Wishes) → reaches (accesses.ioapic_store shape offset len value) b ws q
-      ≡ (is_same Ioapic q || (nat_eq len 4 && table.of_written routing shape b.ioapic (write_to (ioapic_of b.ioapic) offset value) q))
+      ≡ (is_same Ioapic q || (nat_eq len 4 && table.of_written acks.of_acknowledge_each routing shape b.ioapic (write_to (ioapic_of b.ioapic) offset value) q))
   ioapic_store_reach offset len value b ws =
       ap (λ x. is_same Ioapic q || x) (replied q (if nat_eq len 4 then accesses.ioapic_written shape b.ioapic written else done tt) Done b ws)
-      ∙ (elim (nat_eq len 4) as (λ t. (is_same Ioapic q || reaches (if t then accesses.ioapic_written shape b.ioapic written else done tt) b ws q) ≡ (is_same Ioapic q || (t && table.of_written routing shape b.ioapic written q))) [
+      ∙ (elim (nat_eq len 4) as (λ t. (is_same Ioapic q || reaches (if t then accesses.ioapic_written shape b.ioapic written else done tt) b ws q) ≡ (is_same Ioapic q || (t && table.of_written acks.of_acknowledge_each routing shape b.ioapic written q))) [
         | true ↦ twice (is_same Ioapic q) _ ∙ pin_written_reach b.ioapic written.after written.pin b ws
         | false ↦ refl
       ])
@@ -227,24 +227,24 @@ module _ (routing : Routing) (shape : Shape) (q : Part) where
 
   -- ---- accesses to the local APIC
 
-  pub end_same : (b c : Board) (vector : Option ℕ) (q : Part) → Alike b c → table.of_end routing shape b vector q ≡ table.of_end routing shape c vector q
+  pub end_same : (b c : Board) (vector : Option ℕ) (q : Part) → Alike b c → table.of_end acks.of_acknowledge_each routing shape b vector q ≡ table.of_end acks.of_acknowledge_each routing shape c vector q
   end_same b c None q h = refl
   end_same b c (Some vector) q h =
       ap (λ r. is_same Ioapic q || r) (ap (λ part. acks.of_acknowledge_each routing shape b (pins_with (ioapic_of part) vector) q) h.ioapic ∙ each_same routing shape (pins_with (ioapic_of c.ioapic) vector) b c q h)
 
-  pub end_reach : (vector : Option ℕ) (b : Board) (ws : Wishes) (q : Part) → reaches (end_vector routing shape vector) b ws q ≡ table.of_end routing shape b vector q
+  pub end_reach : (vector : Option ℕ) (b : Board) (ws : Wishes) (q : Part) → reaches (end_vector routing shape vector) b ws q ≡ table.of_end acks.of_acknowledge_each routing shape b vector q
   end_reach None b ws q = refl
   end_reach (Some vector) b ws q = ap (λ r. is_same Ioapic q || r) (each_reach routing shape (pins_with (ioapic_of b.ioapic) vector) b ws q)
 
   -- the end of a vector, once the greatest went out of service
   pub ended_reach : (n : ℕ) (vector : Option ℕ) (b : Board) (ws : Wishes)
-      → reaches (end_vector routing shape vector) (with_part b (Lapic n) (ended (part_of b (Lapic n)))) ws q ≡ table.of_end routing shape b vector q
+      → reaches (end_vector routing shape vector) (with_part b (Lapic n) (ended (part_of b (Lapic n)))) ws q ≡ table.of_end acks.of_acknowledge_each routing shape b vector q
   ended_reach n vector b ws =
       end_reach vector (with_part b (Lapic n) (ended (part_of b (Lapic n)))) ws q
       ∙ end_same (with_part b (Lapic n) (ended (part_of b (Lapic n)))) b vector q (alike_lapic b n (ended (part_of b (Lapic n))) (less_service (part_of b (Lapic n)) (greatest_vector (part_of b (Lapic n)).isr)))
 
   effect_reach : (n : ℕ) (effect : LapicEffect) (after : LocalApic) (b : Board) (ws : Wishes) → HearsAfter (part_of b (Lapic n)) effect after
-      → reaches (accesses.store_effects routing shape n effect) (with_part b (Lapic n) after) ws q ≡ table.of_effect routing shape b n effect q
+      → reaches (accesses.store_effects routing shape n effect) (with_part b (Lapic n) after) ws q ≡ table.of_effect acks.of_acknowledge_each routing shape b n effect q
   effect_reach n effects.Plain after b ws hears = refl
   effect_reach n (effects.Ended vector) after b ws hears =
       end_reach vector (with_part b (Lapic n) after) ws q ∙ end_same (with_part b (Lapic n) after) b vector q (alike_lapic b n after hears)
@@ -253,10 +253,10 @@ module _ (routing : Routing) (shape : Shape) (q : Part) where
       ∙ sends_reach shape.cpus message.message (Some (n, message.to)) ipi (with_part b (Lapic n) after) ws q
 
   lapic_store_reach : (n offset len value : ℕ) (b : Board) (ws : Wishes) → reaches (accesses.lapic_store routing shape n offset len value) b ws q
-      ≡ (is_same (Lapic n) q || (nat_eq len 4 && table.of_effect routing shape b n (store_effect (part_of b (Lapic n)) offset value) q))
+      ≡ (is_same (Lapic n) q || (nat_eq len 4 && table.of_effect acks.of_acknowledge_each routing shape b n (store_effect (part_of b (Lapic n)) offset value) q))
   lapic_store_reach n offset len value b ws =
       ap (λ x. is_same (Lapic n) q || x) (replied q (if nat_eq len 4 then stored else done tt) Done b ws)
-      ∙ (elim (nat_eq len 4) as (λ t. (is_same (Lapic n) q || reaches (if t then stored else done tt) b ws q) ≡ (is_same (Lapic n) q || (t && table.of_effect routing shape b n (store_effect (part_of b (Lapic n)) offset value) q))) [
+      ∙ (elim (nat_eq len 4) as (λ t. (is_same (Lapic n) q || reaches (if t then stored else done tt) b ws q) ≡ (is_same (Lapic n) q || (t && table.of_effect acks.of_acknowledge_each routing shape b n (store_effect (part_of b (Lapic n)) offset value) q))) [
         | true ↦ twice (is_same (Lapic n) q) _ ∙ ap (λ x. is_same (Lapic n) q || x) (effect_reach n (store_effect (part_of b (Lapic n)) offset value) (store_to (part_of b (Lapic n)) offset value) b ws (hears_after (part_of b (Lapic n)) offset value))
         | false ↦ refl
       ])
@@ -266,12 +266,12 @@ module _ (routing : Routing) (shape : Shape) (q : Part) where
 
   -- ---- accesses to memory
 
-  pub store_reach : (n address len value : ℕ) (b : Board) (ws : Wishes) → reaches (accesses.store routing shape n address len value) b ws q ≡ table.of_store routing shape b n address len value q
+  pub store_reach : (n address len value : ℕ) (b : Board) (ws : Wishes) → reaches (accesses.store routing shape n address len value) b ws q ≡ table.of_store acks.of_acknowledge_each routing shape b n address len value q
   store_reach n address len value b ws = elim (is_ioapic_address address) as (λ t. reaches (if t then accesses.ioapic_store shape (address - 0xfec00000) len value else others) b ws q
-      ≡ (if t then is_same Ioapic q || (nat_eq len 4 && table.of_written routing shape b.ioapic (write_to (ioapic_of b.ioapic) (address - 0xfec00000) value) q) else of_others)) [
+      ≡ (if t then is_same Ioapic q || (nat_eq len 4 && table.of_written acks.of_acknowledge_each routing shape b.ioapic (write_to (ioapic_of b.ioapic) (address - 0xfec00000) value) q) else of_others)) [
         | true ↦ ioapic_store_reach (address - 0xfec00000) len value b ws
         | false ↦ elim (is_lapic_address address) as (λ t. reaches (if t then accesses.lapic_store routing shape n (address - 0xfee00000) len value else accesses.ring routing shape spaces.Memory address len value) b ws q
-            ≡ (if t then is_same (Lapic n) q || (nat_eq len 4 && table.of_effect routing shape b n (store_effect (part_of b (Lapic n)) (address - 0xfee00000) value) q) else table.of_ring routing shape b spaces.Memory address len value q)) [
+            ≡ (if t then is_same (Lapic n) q || (nat_eq len 4 && table.of_effect acks.of_acknowledge_each routing shape b n (store_effect (part_of b (Lapic n)) (address - 0xfee00000) value) q) else table.of_ring acks.of_acknowledge_each routing shape b spaces.Memory address len value q)) [
               | true ↦ lapic_store_reach n (address - 0xfee00000) len value b ws
               | false ↦ ring_reach spaces.Memory address len value b ws
             ]
@@ -281,10 +281,10 @@ module _ (routing : Routing) (shape : Shape) (q : Part) where
       others = if is_lapic_address address then accesses.lapic_store routing shape n (address - 0xfee00000) len value else accesses.ring routing shape spaces.Memory address len value
 
       of_others : Bool
-      of_others = if is_lapic_address address then is_same (Lapic n) q || (nat_eq len 4 && table.of_effect routing shape b n (store_effect (part_of b (Lapic n)) (address - 0xfee00000) value) q)
-          else table.of_ring routing shape b spaces.Memory address len value q
+      of_others = if is_lapic_address address then is_same (Lapic n) q || (nat_eq len 4 && table.of_effect acks.of_acknowledge_each routing shape b n (store_effect (part_of b (Lapic n)) (address - 0xfee00000) value) q)
+          else table.of_ring acks.of_acknowledge_each routing shape b spaces.Memory address len value q
 
-  pub load_reach : (n address len : ℕ) (b : Board) (ws : Wishes) → reaches (accesses.load n address len) b ws q ≡ table.of_load routing shape n address q
+  pub load_reach : (n address len : ℕ) (b : Board) (ws : Wishes) → reaches (accesses.load n address len) b ws q ≡ table.of_load acks.of_acknowledge_each routing shape n address q
   load_reach n address len b ws = by_tests (is_ioapic_address address) (is_lapic_address address)
     where
       by_tests : (s t : Bool) → reaches (if s then accesses.ioapic_load (address - 0xfec00000) len else if t then accesses.lapic_load n (address - 0xfee00000) len else reply Exit) b ws q

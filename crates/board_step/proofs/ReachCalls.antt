@@ -66,7 +66,7 @@ last_again false p = refl
 module _ (routing : Routing) (shape : Shape) (q : Part) where
   -- ---- lines, messages and counters
 
-  line_reach : (gsi line : ℕ) (high : Bool) (n : ℕ) (b : Board) (ws : Wishes) → reaches (registrations.line_set routing shape gsi line high) b ws q ≡ table.of_call routing shape b n (calls.Line gsi line high) q
+  line_reach : (gsi line : ℕ) (high : Bool) (n : ℕ) (b : Board) (ws : Wishes) → reaches (registrations.line_set routing shape gsi line high) b ws q ≡ table.of_call acks.of_acknowledge_each routing shape b n (calls.Line gsi line high) q
   line_reach gsi line true n b ws =
       dropped q (raise shape.cpus (routing.targets gsi) (sources.Line line) (λ pic. the_reply pic)) b ws
       ∙ (signals_reach_the_same shape.cpus (routing.targets gsi) (sources.Line line) (λ pic. the_reply pic) b ws q).raised
@@ -77,7 +77,7 @@ module _ (routing : Routing) (shape : Shape) (q : Part) where
       dropped q (send shape.cpus (message_in address payload) None (the_reply None)) b ws
       ∙ sends_reach shape.cpus (message_in address payload) None (the_reply None) b ws q
 
-  write_reach : (trigger : Option TriggerWord) (counter count : ℕ) (b : Board) (ws : Wishes) → reaches (registrations.write routing shape trigger counter count) b ws q ≡ table.of_write routing shape b trigger count q
+  write_reach : (trigger : Option TriggerWord) (counter count : ℕ) (b : Board) (ws : Wishes) → reaches (registrations.write routing shape trigger counter count) b ws q ≡ table.of_write acks.of_acknowledge_each routing shape b trigger count q
   write_reach None counter count b ws = within_one q (is_same Counters q) (first_of (write_reasons b.counters counter count)) (set Counters (written b.counters counter count) >> reply Done) b ws refl
   write_reach (Some trigger) counter count b ws = elim (nat_eq count 0) as (λ t. reaches (if t then reply Done else registrations.trigger_written routing shape trigger) b ws q ≡ (not t && acks.of_gsi routing shape b trigger.gsi q)) [
     | true ↦ refl
@@ -96,7 +96,7 @@ module _ (routing : Routing) (shape : Shape) (q : Part) where
   count_reach gsi resample false b ws = refl
 
   assign_reach : (trigger gsi : ℕ) (resample : Option ℕ) (b : Board) (ws : Wishes) → reaches (registrations.assign routing shape trigger gsi resample) b ws q
-      ≡ (is_same Registry q || (is_same Counters q || (table.does_inject routing shape b trigger resample && acks.of_gsi routing shape b gsi q)))
+      ≡ (is_same Registry q || (is_same Counters q || (table.does_inject acks.of_acknowledge_each routing shape b trigger resample && acks.of_gsi routing shape b gsi q)))
   assign_reach trigger gsi resample b ws = by_reason (first_of (assign_reasons b.registry trigger resample))
     where
       has_count : Bool
@@ -120,7 +120,7 @@ module _ (routing : Routing) (shape : Shape) (q : Part) where
   release_reach gsi false b ws = refl
 
   deassign_reach : (trigger gsi : ℕ) (row : Option Irqfd) (b : Board) (ws : Wishes) → (is_same Registry q || reaches (deassigned routing b.registry trigger gsi row) b ws q)
-      ≡ (is_same Registry q || (table.does_release routing shape b.registry.irqfds trigger gsi row && of_fall (routing.targets gsi) q))
+      ≡ (is_same Registry q || (table.does_release acks.of_acknowledge_each routing shape b.registry.irqfds trigger gsi row && of_fall (routing.targets gsi) q))
   deassign_reach trigger gsi None b ws = refl
   deassign_reach trigger gsi (Some row) b ws =
       twice (is_same Registry q) _
@@ -140,9 +140,9 @@ module _ (routing : Routing) (shape : Shape) (q : Part) where
 
   -- the pair gives, or the local APIC does
   given_reach : (n : ℕ) (apic : LocalApic) (b : Board) (ws : Wishes) → (is_same (Lapic n) q || reaches (give_of_pair routing shape n apic) b ws q)
-      ≡ (is_same (Lapic n) q || (is_same Pic q || (has_output (pair_of b.pic) && table.of_cycle routing shape b q)))
+      ≡ (is_same (Lapic n) q || (is_same Pic q || (has_output (pair_of b.pic) && table.of_cycle acks.of_acknowledge_each routing shape b q)))
   given_reach n apic b ws = elim (has_output (pair_of b.pic)) as (λ t. (is_same (Lapic n) q || (is_same Pic q || reaches (if t then made else give n apic) b ws q))
-      ≡ (is_same (Lapic n) q || (is_same Pic q || (t && table.of_cycle routing shape b q)))) [
+      ≡ (is_same (Lapic n) q || (is_same Pic q || (t && table.of_cycle acks.of_acknowledge_each routing shape b q)))) [
         | true ↦ ap (λ x. is_same (Lapic n) q || x) (answered_reach routing shape q (with_pair b.pic (cycle (pair_of b.pic)).after) (cycle_pins (cycle (pair_of b.pic)).pins) (Extint (cycle (pair_of b.pic)).vector) b ws)
         | false ↦ last_again (is_same (Lapic n) q) (is_same Pic q)
       ]
@@ -150,23 +150,23 @@ module _ (routing : Routing) (shape : Shape) (q : Part) where
       made : Plan (Unit {0})
       made = cycle_made routing shape b.pic (cycle (pair_of b.pic)) (Extint (cycle (pair_of b.pic)).vector)
 
-  ack_reach : (n : ℕ) (b : Board) (ws : Wishes) → reaches (plan_in_range routing shape n calls.Ack) b ws q ≡ table.of_ack routing shape b n (part_of b (Lapic n)) q
+  ack_reach : (n : ℕ) (b : Board) (ws : Wishes) → reaches (plan_in_range routing shape n calls.Ack) b ws q ≡ table.of_ack acks.of_acknowledge_each routing shape b n (part_of b (Lapic n)) q
   ack_reach n b ws = by_tests (part_of b (Lapic n)).nmi (hears_pair n (part_of b (Lapic n)))
     where
       by_tests : (s t : Bool) → (is_same (Lapic n) q || reaches (if s then take_nmi n (part_of b (Lapic n)) else if t then give_of_pair routing shape n (part_of b (Lapic n)) else give n (part_of b (Lapic n))) b ws q)
-          ≡ (is_same (Lapic n) q || ((not s && t) && (is_same Pic q || (has_output (pair_of b.pic) && table.of_cycle routing shape b q))))
+          ≡ (is_same (Lapic n) q || ((not s && t) && (is_same Pic q || (has_output (pair_of b.pic) && table.of_cycle acks.of_acknowledge_each routing shape b q))))
       by_tests true t = twice (is_same (Lapic n) q) false
       by_tests false true = given_reach n (part_of b (Lapic n)) b ws
       by_tests false false = twice (is_same (Lapic n) q) false
 
-  eoi_reach : (n : ℕ) (b : Board) (ws : Wishes) → reaches (plan_in_range routing shape n calls.Eoi) b ws q ≡ table.of_call routing shape b n calls.Eoi q
+  eoi_reach : (n : ℕ) (b : Board) (ws : Wishes) → reaches (plan_in_range routing shape n calls.Eoi) b ws q ≡ table.of_call acks.of_acknowledge_each routing shape b n calls.Eoi q
   eoi_reach n b ws =
       twice (is_same (Lapic n) q) _
       ∙ ap (λ x. is_same (Lapic n) q || x) (replied q (end_vector routing shape (greatest_vector (part_of b (Lapic n)).isr)) _ _ ws ∙ ended_reach routing shape q n (greatest_vector (part_of b (Lapic n)).isr) b ws)
 
   -- ---- all calls
 
-  call_reach : (n : ℕ) (call : Call) (b : Board) (ws : Wishes) → reaches (plan_in_range routing shape n call) b ws q ≡ table.of_call routing shape b n call q
+  call_reach : (n : ℕ) (call : Call) (b : Board) (ws : Wishes) → reaches (plan_in_range routing shape n call) b ws q ≡ table.of_call acks.of_acknowledge_each routing shape b n call q
   call_reach n (calls.Line gsi line high) b ws = line_reach gsi line high n b ws
   call_reach n (calls.Msi address payload) b ws = message_reach address payload b ws
   call_reach n (calls.Write counter count) b ws = write_reach (routing.trigger counter) counter count b ws

@@ -96,10 +96,10 @@ all_stay : (trigger gsi : ℕ) (rows : List Irqfd) → AllByRecursion (λ (row :
 all_stay trigger gsi [] none = refl
 all_stay trigger gsi (x ∷ xs) none = ap (λ t. cond (not (t && nat_eq x.gsi gsi)) (x ∷ without_row xs trigger gsi) (without_row xs trigger gsi)) none.0 ∙ ap (λ rest. x ∷ rest) (all_stay trigger gsi xs none.1)
 
-pairs_head : {X : Type 0} (R : X → X → Type 0) (x : X) (xs : List X) → AllPairs R (x ∷ xs) → All (R x) xs
+pub pairs_head : {X : Type 0} (R : X → X → Type 0) (x : X) (xs : List X) → AllPairs R (x ∷ xs) → All (R x) xs
 pairs_head R x xs pairs k d below = pairs 0 (suc k) d (omega arith) (omega (arith, below))
 
-pairs_tail : {X : Type 0} (R : X → X → Type 0) (x : X) (xs : List X) → AllPairs R (x ∷ xs) → AllPairs R xs
+pub pairs_tail : {X : Type 0} (R : X → X → Type 0) (x : X) (xs : List X) → AllPairs R (x ∷ xs) → AllPairs R xs
 pairs_tail R x xs pairs i j d less below = pairs (suc i) (suc j) d (omega (arith, less)) (omega (arith, below))
 
 -- where the row that goes has no resample counter, the resamplers stay

@@ -166,67 +166,67 @@ module _ (routing : Routing) (shape : Shape) (n : ℕ) (far : shape.cpus ≤ n) 
 
   -- ---- calls
 
-  far_end : (b : Board) (vector : Option ℕ) → of_end routing shape b vector (Lapic n) ≡ false
+  far_end : (b : Board) (vector : Option ℕ) → of_end of_acknowledge_each routing shape b vector (Lapic n) ≡ false
   far_end b None = refl
   far_end b (Some vector) = far_each b (pins_with (ioapic_of b.ioapic) vector)
 
-  far_counter : (b : Board) (trigger : Option TriggerWord) → of_counter routing shape b trigger (Lapic n) ≡ false
+  far_counter : (b : Board) (trigger : Option TriggerWord) → of_counter of_acknowledge_each routing shape b trigger (Lapic n) ≡ false
   far_counter b None = refl
   far_counter b (Some trigger) = far_gsi b trigger.gsi
 
-  far_write : (b : Board) (trigger : Option TriggerWord) (count : ℕ) → of_write routing shape b trigger count (Lapic n) ≡ false
+  far_write : (b : Board) (trigger : Option TriggerWord) (count : ℕ) → of_write of_acknowledge_each routing shape b trigger count (Lapic n) ≡ false
   far_write b None count = refl
   far_write b (Some trigger) count = and_false (not (nat_eq count 0)) _ (far_gsi b trigger.gsi)
 
-  far_pair : (b : Board) (len : ℕ) (pin : Option ℕ) → of_pair routing shape b len pin (Lapic n) ≡ false
+  far_pair : (b : Board) (len : ℕ) (pin : Option ℕ) → of_pair of_acknowledge_each routing shape b len pin (Lapic n) ≡ false
   far_pair b len pin = and_false (nat_eq len 1) _ (far_each b (pic_pin pin))
 
-  far_written : (part : IoapicPart) (written : Written) → of_written routing shape part written (Lapic n) ≡ false
+  far_written : (part : IoapicPart) (written : Written) → of_written of_acknowledge_each routing shape part written (Lapic n) ≡ false
   far_written part written = by_pin written.pin
     where
-      by_pin : (pin : Option ℕ) → of_written routing shape part (record written { pin = pin }) (Lapic n) ≡ false
+      by_pin : (pin : Option ℕ) → of_written of_acknowledge_each routing shape part (record written { pin = pin }) (Lapic n) ≡ false
       by_pin None = refl
       by_pin (Some pin) = far_resend (resend_of (ioapic_of (with_ioapic part written.after)) pin)
 
-  far_rung : (b : Board) (counter : Option ℕ) → of_rung routing shape b counter (Lapic n) ≡ false
+  far_rung : (b : Board) (counter : Option ℕ) → of_rung of_acknowledge_each routing shape b counter (Lapic n) ≡ false
   far_rung b None = refl
   far_rung b (Some counter) = far_counter b (routing.trigger counter)
 
-  far_ring : (b : Board) (space : Space) (address len value : ℕ) → of_ring routing shape b space address len value (Lapic n) ≡ false
+  far_ring : (b : Board) (space : Space) (address len value : ℕ) → of_ring of_acknowledge_each routing shape b space address len value (Lapic n) ≡ false
   far_ring b space address len value = far_rung b (rung_by b.registry.ioevents space address len value)
 
-  far_cycle : (b : Board) → of_cycle routing shape b (Lapic n) ≡ false
+  far_cycle : (b : Board) → of_cycle of_acknowledge_each routing shape b (Lapic n) ≡ false
   far_cycle b = far_each b (cycle_pins (cycle (pair_of b.pic)).pins)
 
   module _ (m : ℕ) (own : nat_eq m n ≡ false) where
-    far_effect : (b : Board) (effect : Effect) → of_effect routing shape b m effect (Lapic n) ≡ false
+    far_effect : (b : Board) (effect : Effect) → of_effect of_acknowledge_each routing shape b m effect (Lapic n) ≡ false
     far_effect b effects.Plain = refl
     far_effect b (effects.Ended vector) = far_end b vector
     far_effect b (effects.Send ipi) = far_message n shape.cpus far ipi.message (Some (m, ipi.to))
 
-    far_store : (b : Board) (address len value : ℕ) → of_store routing shape b m address len value (Lapic n) ≡ false
+    far_store : (b : Board) (address len value : ℕ) → of_store of_acknowledge_each routing shape b m address len value (Lapic n) ≡ false
     far_store b address len value =
         if_false (is_ioapic_address address) _ _ (and_false (nat_eq len 4) _ (far_written b.ioapic (write_to (ioapic_of b.ioapic) (address - 0xfec00000) value)))
         (if_false (is_lapic_address address) _ _
         (or_false (nat_eq m n) _ own (and_false (nat_eq len 4) _ (far_effect b (store_effect (part_of b (Lapic m)) (address - 0xfee00000) value))))
         (far_ring b spaces.Memory address len value))
 
-    far_load : (address : ℕ) → of_load routing shape m address (Lapic n) ≡ false
+    far_load : (address : ℕ) → of_load of_acknowledge_each routing shape m address (Lapic n) ≡ false
     far_load address = if_false (is_ioapic_address address) _ _ refl (if_false (is_lapic_address address) _ _ own refl)
 
-    far_ack : (b : Board) (apic : LocalApic) → of_ack routing shape b m apic (Lapic n) ≡ false
+    far_ack : (b : Board) (apic : LocalApic) → of_ack of_acknowledge_each routing shape b m apic (Lapic n) ≡ false
     far_ack b apic = or_false (nat_eq m n) _ own (and_false (not apic.nmi && hears_pair m apic) _ (and_false (has_output (pair_of b.pic)) _ (far_cycle b)))
 
   far_release : (b : Board) (gsi : ℕ) (t : Bool) → (t && of_fall (routing.targets gsi) (Lapic n)) ≡ false
   far_release b gsi t = and_false t _ (far_fall n shape.cpus far (routing.targets gsi))
 
-  far_call : (b : Board) (m : ℕ) (call : Call) → (is_of_processor call ≡ true → nat_eq m n ≡ false) → of_call routing shape b m call (Lapic n) ≡ false
+  far_call : (b : Board) (m : ℕ) (call : Call) → (is_of_processor call ≡ true → nat_eq m n ≡ false) → of_call of_acknowledge_each routing shape b m call (Lapic n) ≡ false
   far_call b m (calls.Line gsi line true) own = far_gsi b gsi
   far_call b m (calls.Line gsi line false) own = far_fall n shape.cpus far (routing.targets gsi)
   far_call b m (calls.Msi address payload) own = far_message n shape.cpus far (message_in address payload) None
   far_call b m (calls.Write counter count) own = far_write b (routing.trigger counter) count
   far_call b m (calls.Take counter) own = refl
-  far_call b m (calls.Assign trigger gsi resample) own = and_false (does_inject routing shape b trigger resample) _ (far_gsi b gsi)
+  far_call b m (calls.Assign trigger gsi resample) own = and_false (does_inject of_acknowledge_each routing shape b trigger resample) _ (far_gsi b gsi)
   far_call b m (calls.Deassign trigger gsi) own = far_release b gsi _
   far_call b m (calls.Reroute rows) own = refl
   far_call b m (calls.Attach space address len counter want) own = refl

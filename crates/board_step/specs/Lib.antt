@@ -1,6 +1,7 @@
 pub mod Step
 pub mod Reach
 pub mod Publications
+pub mod ReachNow
 pub mod Sound
 pub mod History
 pub mod Laws
@@ -9,4 +10,5 @@ pub mod Applied
 pub mod Whole
 pub mod Opening
 pub mod Owned
+pub mod Seen
 pub mod Due

@@ -9,6 +9,7 @@ use Rattle.irq_base.specs.declared.call.Call.TheVariants as calls
 use Rattle.irq_base.specs.declared.call.Caller.{Caller}
 use Rattle.irq_base.specs.declared.call.Space.{Space}
 use Rattle.irq_base.specs.declared.call.Space.TheVariants as spaces
+use Rattle.irq_base.specs.declared.event.Pin.{Pin}
 use Rattle.irq_base.specs.declared.shape.Part.{Part}
 use Rattle.irq_base.specs.declared.shape.Part.TheVariants.{Registry, Counters, Tick, Pic, Ioapic, Lapic}
 use Rattle.irq_base.specs.declared.shape.Shape.{Shape}
@@ -34,13 +35,14 @@ use Rattle.board_calls.specs.Registrations.{was_last_resampler}
 use Rattle.board_calls.specs.Processors.{pins_with, pic_pin, cycle_pins, hears_pair}
 use Rattle.board_calls.specs.Calls.{number_of}
 
-module _ (routing : Routing) (shape : Shape) where
+-- the rows of all calls; what pins reach that are acknowledged one after another is a row of its own
+module _ (of_acks : Routing → Shape → Board → List Pin → Part → Bool) (routing : Routing) (shape : Shape) where
   -- ---- an end of interrupt
 
   -- where a vector ends the I/O APIC, and each of its pins that has the vector
   abbrev pub of_end : Board → Option ℕ → Part → Bool
   of_end b None q = false
-  of_end b (Some vector) q = is_same Ioapic q || of_acknowledge_each routing shape b (pins_with (ioapic_of b.ioapic) vector) q
+  of_end b (Some vector) q = is_same Ioapic q || of_acks routing shape b (pins_with (ioapic_of b.ioapic) vector) q
 
   -- ---- counters and registrations
 
@@ -67,7 +69,7 @@ module _ (routing : Routing) (shape : Shape) where
 
   -- an access to the pair, and the pin that it acknowledges, if any; one of another length than 1 acknowledges none
   abbrev pub of_pair : Board → ℕ → Option ℕ → Part → Bool
-  of_pair b len pin q = is_same Pic q || (nat_eq len 1 && of_acknowledge_each routing shape b (pic_pin pin) q)
+  of_pair b len pin q = is_same Pic q || (nat_eq len 1 && of_acks routing shape b (pic_pin pin) q)
 
   -- a store to the I/O APIC, and what the entry that is written sends again, by the chip after it
   abbrev pub of_written : IoapicPart → Written → Part → Bool
@@ -110,7 +112,7 @@ module _ (routing : Routing) (shape : Shape) where
 
   -- a cycle of the pair, and the pins that it acknowledges
   abbrev pub of_cycle : Board → Part → Bool
-  of_cycle b q = of_acknowledge_each routing shape b (cycle_pins (cycle (pair_of b.pic)).pins) q
+  of_cycle b q = of_acks routing shape b (cycle_pins (cycle (pair_of b.pic)).pins) q
 
   -- the processor's local APIC; and the pair, where no NMI is pending and LINT0 of processor 0 lets it through
   abbrev pub of_ack : Board → ℕ → LocalApic → Part → Bool
@@ -144,7 +146,12 @@ module _ (routing : Routing) (shape : Shape) where
   of_call b n calls.Inta q = is_same Pic q || of_cycle b q
   of_call b n calls.Eoi q = is_same (Lapic n) q || of_end b (greatest_vector (part_of b (Lapic n)).isr) q
 
--- what a call reaches on a board; one whose arguments are out of range reaches nothing
+-- what a call reaches on a board by that row of acknowledges; one whose arguments are out of range reaches nothing
+abbrev pub reach_by : (Routing → Shape → Board → List Pin → Part → Bool) → Board → Caller → Call → Part → Bool
+reach_by of_acks b caller call q =
+    not (is_some (first_of (range_reasons b.shape call)))
+    && of_call of_acks (routing_of_registry b.registry b.shape.tick) b.shape b (number_of caller) call q
+
+-- what a call reaches on a board, pins reaching what each of their acknowledges does on the board that those before it left
 abbrev pub reach : Board → Caller → Call → Part → Bool
-reach b caller call q =
-    not (is_some (first_of (range_reasons b.shape call))) && of_call (routing_of_registry b.registry b.shape.tick) b.shape b (number_of caller) call q
+reach b caller call q = reach_by of_acknowledge_each b caller call q

@@ -1,7 +1,7 @@
 //! A whole board on one thread.
 ghost use Rattle.std.specs.Prelude.{◌≡◌, ◌<◌, ◌↔◌, IfOk, IsErrOf, Err, true, false, None, Some, MatchResult, OnErr};
 ghost use Rattle.irq_base.specs.Callers.{is_allowed};
-ghost use Rattle.irq_base.specs.declared.shape.Part.{Part};
+ghost use Rattle.irq_base.specs.declared.shape.Part.{Part as AnyPart};
 ghost use Rattle.board_model.specs.Board.{part_of};
 ghost use Rattle.board_model.specs.Run.{Wishes};
 ghost use Rattle.board_model.specs.Published.{published};
@@ -22,10 +22,11 @@ use crate::due::{Due, due_in_hand};
 use crate::open::OpenError;
 use crate::opening::{is_in_limits, rig};
 use crate::limits::{barred_by, would_publish_in};
+use crate::reach_calls::reach_in_hand;
 use crate::step::step_on;
 use crate::typed::calls_are_typed;
 use board_raise::{BoardRig, Parts, Words};
-use irq_base::{Call, Caller, Done, Events, NoMemory, Shape, Spent};
+use irq_base::{Call, Caller, Done, Events, NoMemory, Part, Shape, Spent};
 use std::alloc::Global;
 use std::marker::Model;
 
@@ -127,7 +128,7 @@ impl Board {
         requires { is_allowed caller call.now self.old.shape ≡ true }
         ensures spent { MatchResult result (λ _. spent_of self.old call.now ≡ None) (λ spent. spent_of self.old call.now ≡ Some spent) }
         ensures applied { IfOk result (λ done. Applied self.old caller call.now done events.old.items events.new.items self.new) }
-        ensures outside { (p : Part) → reach self.old caller call.now p ≡ false → part_of self.new p ≡ part_of self.old p }
+        ensures outside { (p : AnyPart) → reach self.old caller call.now p ≡ false → part_of self.new p ≡ part_of self.old p }
         ensures stays { OnErr result (self.new ≡ self.old) }
         ensures quiet { OnErr result (events.new ≡ events.old) }
     {
@@ -156,6 +157,15 @@ impl Board {
         ensures { (ws : Wishes) → AnswersDue self.now cpu result ws }
     {
         due_in_hand(self.rig.all(), cpu)
+    }
+
+    /// Whether a call by that caller would reach the part: look at it, or change it. It tells what the board is now, and it runs
+    /// nothing: whom a message is given to makes no difference. To read where GSIs, pins and triggers go reaches no part.
+    pub fn reach(&self, caller: Caller, call: &Call, part: Part) -> bool
+        requires { is_allowed caller call.now self.now.shape ≡ true }
+        ensures { result ≡ reach self.now caller call.now part }
+    {
+        reach_in_hand(self.rig.all(), &self.shape, caller, call, part)
     }
 
     /// All its parts, which fit its shape, and the words that it publishes.

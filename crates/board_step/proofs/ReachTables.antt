@@ -1,0 +1,262 @@
+-- What a call reaches is told by the board before it.
+use Rattle.std.proofs.Common.{◌≡◌, ℕ, ◌+◌, Bool, true, false, cond, not, ◌&&◌, ◌||◌, nat_eq, ◌-◌, if◌then◌else◌, List, [], ◌∷◌, ◌++◌, map, filter, refl, sym, ap, ◌∙◌, subst, true≢false, arith, Some, None}
+use Rattle.std.specs.Prelude.{is_some}
+use Rattle.std.specs.List.{list_all}
+use Rattle.std.specs.Cmp.{unsigned_Decides}
+use Rattle.std.specs.declared.option.Option.{Option}
+use Rattle.std.proofs.lemmas.Bool.Decides.{nat_tests}
+use Rattle.irq_bits.specs.Members.{greatest_vector}
+use Rattle.irq_base.specs.Refusals.{first_of}
+use Rattle.irq_base.specs.declared.call.Call.{Call}
+use Rattle.irq_base.specs.declared.call.Call.TheVariants as calls
+use Rattle.irq_base.specs.declared.call.Caller.{Caller}
+use Rattle.irq_base.specs.declared.call.Space.{Space}
+use Rattle.irq_base.specs.declared.call.Space.TheVariants as spaces
+use Rattle.irq_base.specs.declared.event.Pin.{Pin}
+use Rattle.irq_base.specs.declared.event.Pin.TheVariants as pins
+use Rattle.irq_base.specs.declared.shape.Part.{Part}
+use Rattle.irq_base.specs.declared.shape.Part.TheVariants.{Registry, Pic, Ioapic, Lapic}
+use Rattle.irq_base.specs.declared.shape.Shape.{Shape}
+use Rattle.pic_8259a.specs.declared.pair.Pair.{Pair}
+use Rattle.pic_8259a.specs.declared.chip.Place.TheVariants.{Slave}
+use Rattle.pic_8259a.specs.Priority.{top_of}
+use Rattle.pic_8259a.specs.Accesses.{level_acknowledged}
+use Rattle.pic_8259a.specs.Pair.{is_port, has_output, slave_pin, master_top, acked_pins, slave_cycle, cycle_by, cycle, write_to as pair_write_to, read_from as pair_read_from}
+use Rattle.ioapic_82093aa.specs.declared.ioapic.Ioapic.{Ioapic as IoapicChip}
+use Rattle.ioapic_82093aa.specs.Pins.{has_vector, write_to}
+use Rattle.lapic.specs.declared.outcome.Effect.{Effect}
+use Rattle.lapic.specs.declared.outcome.Effect.TheVariants as effects
+use Rattle.lapic.specs.Registers.{LocalApic}
+use Rattle.lapic.specs.Offsets.{store_effect}
+use Rattle.irqfd_set.specs.declared.irqfds.Irqfd.{Irqfd}
+use Rattle.irqfd_set.specs.Rows.{named_row}
+use Rattle.ack_notifiers.specs.Rows.{has_watch}
+use Rattle.ioevent_set.specs.Rows.{rung_by}
+use Rattle.route_table.specs.Rows.{Table, is_same as is_same_pin, targets_of}
+use Rattle.route_table.specs.Pins.{has_pin, gsi_of}
+use Rattle.route_table.proofs.Sound.{sound_of}
+use Rattle.route_table.proofs.Given.{gsi_of_pin}
+use Rattle.board_model.specs.declared.trigger.TriggerWord.{TriggerWord}
+use Rattle.board_model.specs.Board.{Board, part_of, is_same}
+use Rattle.board_model.specs.Chips.{pair_of, IoapicPart, ioapic_of}
+use Rattle.board_model.specs.Published.{IsSoundTable, IsSoundRegistry}
+use Rattle.board_model.specs.Registry.{RegistryPart}
+use Rattle.board_model.specs.Routing.{Routing, routing_of_registry}
+use Rattle.board_raise.specs.ReachLaws.{of_fall}
+use Rattle.board_ack.specs.ReachLaws.{of_acknowledge_each}
+use Rattle.board_calls.specs.Refusals.{is_ioapic_address, is_lapic_address, range_reasons}
+use Rattle.board_calls.specs.Processors.{all_pins, pins_with, pic_pin, cycle_pins, hears_pair}
+use Rattle.board_calls.specs.Calls.{number_of}
+use Rattle.board_step.specs.Reach as table
+use Rattle.board_step.specs.Reach.{reach}
+use Rattle.board_step.specs.ReachNow.{of_acknowledges_now, reach_now}
+use Rattle.board_step.specs.Laws.{ReachIsNow}
+use Rattle.board_step.proofs.CountingPins.{gsi_has_pin}
+use Rattle.board_step.proofs.ReachPins.{MarksResamplers}
+use Rattle.board_step.proofs.ReachLists.{TellsPins, Apart, EachApart, AllApart, acknowledges_are_now}
+
+-- ---- the routing of a sound registry
+
+made_only : (t : Table) → IsSoundTable t → (pin : Pin) (gsi : ℕ) → has_pin pin (targets_of t gsi) ≡ true → gsi_of t pin ≡ Some gsi
+made_only t sound pin gsi =
+    let (rows, kept, is) = sound.made in
+    subst (λ (u : Table). has_pin pin (targets_of u gsi) ≡ true → gsi_of u pin ≡ Some gsi) (sym is) (gsi_of_pin rows (sound_of rows kept) pin gsi)
+
+tells_pins : (r : RegistryPart) (tick : ℕ) (shape : Shape) → IsSoundRegistry r tick → TellsPins (routing_of_registry r tick) shape
+tells_pins r tick shape sound = record { own = λ pin gsi. gsi_has_pin r.table pin gsi; only = λ pin gsi. made_only r.table sound.table pin gsi }
+
+marks_resamplers : (b : Board) → MarksResamplers (routing_of_registry b.registry b.shape.tick) b.shape b
+marks_resamplers b gsi has = ap (λ t. t || (has_watch b.registry.watches gsi || nat_eq gsi b.shape.tick)) has
+
+-- ---- the pins of one call
+
+module _ (routing : Routing) (shape : Shape) (tells : TellsPins routing shape) where
+  one_number : (o : Option ℕ) (a c : ℕ) → is_same_pin o (Some a) ≡ true → is_same_pin o (Some c) ≡ true → nat_eq a c ≡ true
+  one_number None a c h k = absurd (true≢false (sym h))
+  one_number (Some n) a c h k = grind (arith, nat_tests, h, k)
+
+  both_ways : {P : Type 0} (a c : ℕ) → nat_eq a c ≡ false → nat_eq a c ≡ true → P
+  both_ways a c other same = absurd (true≢false (sym same ∙ other))
+
+  ioapic_apart : (a c : ℕ) → nat_eq a c ≡ false → Apart routing shape (pins.Ioapic a) (pins.Ioapic c)
+  ioapic_apart a c other = record {
+    differ = λ same. both_ways a c other ((unsigned_Decides a c).1 (number a c same));
+    gsis = λ gsi h k. both_ways a c other (one_number (routing.targets gsi).ioapic a c (tells.own (pins.Ioapic a) gsi h) (tells.own (pins.Ioapic c) gsi k));
+  }
+    where
+      number : (a c : ℕ) → pins.Ioapic a ≡ pins.Ioapic c → a ≡ c
+      number a c e = cc
+
+  pic_apart : (a c : ℕ) → nat_eq a c ≡ false → Apart routing shape (pins.Pic a) (pins.Pic c)
+  pic_apart a c other = record {
+    differ = λ same. both_ways a c other ((unsigned_Decides a c).1 (number a c same));
+    gsis = λ gsi h k. both_ways a c other (one_number (routing.targets gsi).pic a c (tells.own (pins.Pic a) gsi h) (tells.own (pins.Pic c) gsi k));
+  }
+    where
+      number : (a c : ℕ) → pins.Pic a ≡ pins.Pic c → a ≡ c
+      number a c e = cc
+
+  -- ---- the pins of the I/O APIC with one vector
+
+  abbrev are_others : ℕ → List ℕ → Bool
+  are_others a ns = list_all (λ c. not (nat_eq a c)) ns
+
+  abbrev all_differ : List ℕ → Bool
+  all_differ [] = true
+  all_differ (n ∷ ns) = are_others n ns && all_differ ns
+
+  first_of_both : (a c : Bool) → (a && c) ≡ true → a ≡ true
+  first_of_both true c h = refl
+  first_of_both false c h = h
+
+  second_of_both : (a c : Bool) → (a && c) ≡ true → c ≡ true
+  second_of_both true c h = h
+  second_of_both false c h = absurd (true≢false (sym h))
+
+  turned : (t : Bool) → not t ≡ true → t ≡ false
+  turned true h = sym h
+  turned false h = refl
+
+  module _ (f : ℕ → Bool) where
+    each_apart : (a : ℕ) (ns : List ℕ) → are_others a ns ≡ true → EachApart routing shape (pins.Ioapic a) (map pins.Ioapic (filter f ns))
+    each_apart a [] h = tt
+    each_apart a (n ∷ ns) h =
+        let rest = each_apart a ns (second_of_both (not (nat_eq a n)) (are_others a ns) h) in
+        elim (f n) as (λ t. EachApart routing shape (pins.Ioapic a) (map pins.Ioapic (cond t (n ∷ filter f ns) (filter f ns)))) [
+          | true ↦ (ioapic_apart a n (turned (nat_eq a n) (first_of_both (not (nat_eq a n)) (are_others a ns) h)), rest)
+          | false ↦ rest
+        ]
+
+    all_apart : (ns : List ℕ) → all_differ ns ≡ true → AllApart routing shape (map pins.Ioapic (filter f ns))
+    all_apart [] h = tt
+    all_apart (n ∷ ns) h =
+        let rest = all_apart ns (second_of_both (are_others n ns) (all_differ ns) h) in
+        elim (f n) as (λ t. AllApart routing shape (map pins.Ioapic (cond t (n ∷ filter f ns) (filter f ns)))) [
+          | true ↦ (each_apart n ns (first_of_both (are_others n ns) (all_differ ns) h), rest)
+          | false ↦ rest
+        ]
+
+  vector_apart : (io : IoapicChip) (vector : ℕ) → AllApart routing shape (pins_with io vector)
+  unfolding all_pins
+  vector_apart io vector = all_apart (λ pin. has_vector io pin vector) all_pins refl
+
+  -- ---- the pins of the pair
+
+  pin_apart : (pin : Option ℕ) → AllApart routing shape (pic_pin pin)
+  pin_apart None = tt
+  pin_apart (Some pin) = (tt, tt)
+
+  both_apart : (master slave : Bool) (t s : ℕ) → nat_eq t 2 ≡ true → AllApart routing shape (pic_pin (if master then Some t else None) ++ pic_pin (slave_pin (if slave then Some s else None)))
+  both_apart true true t s is = ((pic_apart t (8 + s) (grind (arith, nat_tests, is)), tt), (tt, tt))
+  both_apart true false t s is = (tt, tt)
+  both_apart false true t s is = (tt, tt)
+  both_apart false false t s is = tt
+
+  master_apart : (master : Bool) (t : ℕ) → AllApart routing shape (pic_pin (if master then Some t else None) ++ [])
+  master_apart true t = (tt, tt)
+  master_apart false t = tt
+
+  cycle_apart : (p : Pair) → AllApart routing shape (cycle_pins (cycle p).pins)
+  cycle_apart p = by_master (master_top p)
+    where
+      by_slave : (t : ℕ) → nat_eq t 2 ≡ true → (slave : Option ℕ) → AllApart routing shape (cycle_pins (slave_cycle slave (record p { master = (level_acknowledged p.master t).after }) (level_acknowledged p.master t).pin).pins)
+      by_slave t is None = master_apart p.master.auto_eoi t
+      by_slave t is (Some s) = both_apart p.master.auto_eoi p.slave.auto_eoi t s is
+
+      by_master : (top : Option ℕ) → AllApart routing shape (cycle_pins (cycle_by top p).pins)
+      by_master None = tt
+      by_master (Some t) = elim (nat_eq t 2) as (λ is. nat_eq t 2 ≡ is → AllApart routing shape (cycle_pins (if is then slave_cycle (top_of p.slave Slave) (record p { master = (level_acknowledged p.master t).after }) (level_acknowledged p.master t).pin else record {
+        after = record p { master = (level_acknowledged p.master t).after };
+        vector = p.master.base + t;
+        pins = acked_pins (level_acknowledged p.master t).pin None;
+      }).pins)) [
+        | true ↦ λ is. by_slave t is (top_of p.slave Slave)
+        | false ↦ λ _. master_apart p.master.auto_eoi t
+      ] refl
+
+-- ---- the table by both rows
+
+module _ (routing : Routing) (shape : Shape) (tells : TellsPins routing shape) (b : Board) (marks : MarksResamplers routing shape b) (q : Part) where
+  acks_now : (acked : List Pin) → AllApart routing shape acked → of_acknowledge_each routing shape b acked q ≡ of_acknowledges_now routing shape b acked q
+  acks_now acked apart = acknowledges_are_now routing shape tells q acked b apart marks
+
+  end_now : (vector : Option ℕ) → table.of_end of_acknowledge_each routing shape b vector q ≡ table.of_end of_acknowledges_now routing shape b vector q
+  end_now None = refl
+  end_now (Some vector) = ap (λ t. is_same Ioapic q || t) (acks_now (pins_with (ioapic_of b.ioapic) vector) (vector_apart routing shape tells (ioapic_of b.ioapic) vector))
+
+  pair_now : (len : ℕ) (pin : Option ℕ) → table.of_pair of_acknowledge_each routing shape b len pin q ≡ table.of_pair of_acknowledges_now routing shape b len pin q
+  pair_now len pin = ap (λ t. is_same Pic q || (nat_eq len 1 && t)) (acks_now (pic_pin pin) (pin_apart routing shape tells pin))
+
+  cycle_now : table.of_cycle of_acknowledge_each routing shape b q ≡ table.of_cycle of_acknowledges_now routing shape b q
+  cycle_now = acks_now (cycle_pins (cycle (pair_of b.pic)).pins) (cycle_apart routing shape tells (pair_of b.pic))
+
+  counter_now : (trigger : Option TriggerWord) → table.of_counter of_acknowledge_each routing shape b trigger q ≡ table.of_counter of_acknowledges_now routing shape b trigger q
+  counter_now None = refl
+  counter_now (Some trigger) = refl
+
+  rung_now : (counter : Option ℕ) → table.of_rung of_acknowledge_each routing shape b counter q ≡ table.of_rung of_acknowledges_now routing shape b counter q
+  rung_now None = refl
+  rung_now (Some counter) = counter_now (routing.trigger counter)
+
+  ring_now : (space : Space) (address len value : ℕ) → table.of_ring of_acknowledge_each routing shape b space address len value q ≡ table.of_ring of_acknowledges_now routing shape b space address len value q
+  ring_now space address len value = ap (λ t. is_same Registry q || t) (rung_now (rung_by b.registry.ioevents space address len value))
+
+  write_now : (trigger : Option TriggerWord) (count : ℕ) → table.of_write of_acknowledge_each routing shape b trigger count q ≡ table.of_write of_acknowledges_now routing shape b trigger count q
+  write_now None count = refl
+  write_now (Some trigger) count = refl
+
+  written_now : (part : IoapicPart) (after : IoapicChip) (pin : Option ℕ) → table.of_written of_acknowledge_each routing shape part (record { after = after; pin = pin }) q ≡ table.of_written of_acknowledges_now routing shape part (record { after = after; pin = pin }) q
+  written_now part after None = refl
+  written_now part after (Some pin) = refl
+
+  effect_now : (n : ℕ) (effect : Effect) → table.of_effect of_acknowledge_each routing shape b n effect q ≡ table.of_effect of_acknowledges_now routing shape b n effect q
+  effect_now n effects.Plain = refl
+  effect_now n (effects.Ended vector) = end_now vector
+  effect_now n (effects.Send ipi) = refl
+
+  store_now : (n address len value : ℕ) → table.of_store of_acknowledge_each routing shape b n address len value q ≡ table.of_store of_acknowledges_now routing shape b n address len value q
+  store_now n address len value =
+      let written = write_to (ioapic_of b.ioapic) (address - 0xfec00000) value in
+      λ i. if is_ioapic_address address then is_same Ioapic q || (nat_eq len 4 && written_now b.ioapic written.after written.pin i)
+      else if is_lapic_address address then is_same (Lapic n) q || (nat_eq len 4 && effect_now n (store_effect (part_of b (Lapic n)) (address - 0xfee00000) value) i)
+      else ring_now spaces.Memory address len value i
+
+  ack_now : (n : ℕ) (apic : LocalApic) → table.of_ack of_acknowledge_each routing shape b n apic q ≡ table.of_ack of_acknowledges_now routing shape b n apic q
+  ack_now n apic = ap (λ t. is_same (Lapic n) q || ((not apic.nmi && hears_pair n apic) && (is_same Pic q || (has_output (pair_of b.pic) && t)))) cycle_now
+
+  release_now : (rows : List Irqfd) (trigger gsi : ℕ) (row : Option Irqfd) → table.does_release of_acknowledge_each routing shape rows trigger gsi row ≡ table.does_release of_acknowledges_now routing shape rows trigger gsi row
+  release_now rows trigger gsi None = refl
+  release_now rows trigger gsi (Some row) = refl
+
+  call_now : (n : ℕ) (call : Call) → table.of_call of_acknowledge_each routing shape b n call q ≡ table.of_call of_acknowledges_now routing shape b n call q
+  call_now n (calls.Line gsi line true) = refl
+  call_now n (calls.Line gsi line false) = refl
+  call_now n (calls.Msi address payload) = refl
+  call_now n (calls.Write counter count) = write_now (routing.trigger counter) count
+  call_now n (calls.Take counter) = refl
+  call_now n (calls.Assign trigger gsi resample) = refl
+  call_now n (calls.Deassign trigger gsi) = ap (λ t. is_same Registry q || (t && of_fall (routing.targets gsi) q)) (release_now b.registry.irqfds trigger gsi (named_row b.registry.irqfds trigger gsi))
+  call_now n (calls.Reroute rows) = refl
+  call_now n (calls.Attach space address len counter want) = refl
+  call_now n (calls.Detach space address len counter want) = refl
+  call_now n (calls.Watch counter gsi) = refl
+  call_now n (calls.Unwatch counter gsi) = refl
+  call_now n calls.Tick = refl
+  call_now n (calls.TickMode reinject) = refl
+  call_now n (calls.PortOut port len value) =
+      λ i. if is_port port then pair_now len (pair_write_to (pair_of b.pic) port value).pin i else ring_now spaces.Port port len value i
+  call_now n (calls.PortIn port len) = λ i. if is_port port then pair_now len (pair_read_from (pair_of b.pic) port).pin i else false
+  call_now n (calls.Store address len value) = store_now n address len value
+  call_now n (calls.Load address len) = refl
+  call_now n calls.Ack = ack_now n (part_of b (Lapic n))
+  call_now n calls.Inta = ap (λ t. is_same Pic q || t) cycle_now
+  call_now n calls.Eoi = ap (λ t. is_same (Lapic n) q || t) (end_now (greatest_vector (part_of b (Lapic n)).isr))
+
+-- where the registry is sound
+pub reach_by_registry : (b : Board) (caller : Caller) (call : Call) (q : Part) → IsSoundRegistry b.registry b.shape.tick → reach b caller call q ≡ reach_now b caller call q
+reach_by_registry b caller call q sound =
+    ap (λ t. not (is_some (first_of (range_reasons b.shape call))) && t)
+    (call_now (routing_of_registry b.registry b.shape.tick) b.shape (tells_pins b.registry b.shape.tick b.shape sound) b (marks_resamplers b) q (number_of caller) call)
+
+pub reach_is_now : ReachIsNow
+reach_is_now b caller call q sound = reach_by_registry b caller call q sound.registry

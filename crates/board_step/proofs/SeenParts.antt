@@ -1,0 +1,112 @@
+-- The board of the parts that are lent, and the counts of a board, which no reach depends on.
+use Rattle.std.proofs.Common.{◌≡◌, ℕ, ◌≤◌, ◌^◌, true, false, true≢false, ◌||◌, List, [], length, arith, refl, sym, ap, ◌∙◌, Some, None}
+use Rattle.std.specs.Prelude.{is_some, IfSome, AllPairs, option_map, unwrap_or}
+use Rattle.std.specs.declared.option.Option.{Option}
+use Rattle.irq_base.specs.declared.call.Call.{Call}
+use Rattle.irq_base.specs.declared.call.Caller.{Caller}
+use Rattle.irq_base.specs.declared.shape.Part.{Part}
+use Rattle.irq_base.specs.declared.shape.Part.TheVariants.{Registry, Counters, Tick, Pic, Ioapic, Lapic}
+use Rattle.irqfd_set.specs.declared.irqfds.Irqfd.{Irqfd}
+use Rattle.irqfd_set.specs.Rows.{has_trigger}
+use Rattle.tick_reinject.specs.declared.state.TickState.{TickState}
+use Rattle.tick_reinject.specs.Ticks.{in_mode}
+use Rattle.board_model.specs.Registry.{RegistryPart}
+use Rattle.board_model.specs.Board.{Board, part_of, with_part, is_same}
+use Rattle.board_model.specs.Plan.{Plan, done, look, put, tell, answer, choose}
+use Rattle.board_model.specs.Run.{Wishes, next_wish, later_wishes, reaches}
+use Rattle.board_raise.specs.declared.parts.Parts as parts
+use Rattle.board_raise.specs.InHand.{registry_of}
+use Rattle.board_raise.specs.Fit.{RegistrationsFit}
+use Rattle.board_step.specs.Step.{plan_on}
+use Rattle.board_step.specs.Reach.{reach}
+use Rattle.board_step.specs.History.{opening_registry}
+use Rattle.board_step.specs.declared.board.Board.TheInside.{Inside}
+use Rattle.board_step.specs.Owned.{IsKept}
+use Rattle.board_step.specs.declared.seen.Seen.{Seen}
+use Rattle.board_step.specs.Seen.{SeenFits, PartsFit}
+use Rattle.board_step.proofs.WholeParts.{below_is}
+use Rattle.board_step.proofs.ReachCalls.{reach_is_table}
+
+-- ---- the parts that are lent
+
+abbrev pub parts_seen : Seen → parts.Parts
+parts_seen s = record {
+  registry = Some s.registry.now;
+  counters = Some s.counters.now;
+  tick = Some s.tick.now;
+  pic = Some s.pic.now;
+  ioapic = Some s.ioapic.now;
+  lapics = s.lapics.now;
+}
+
+pub seen_fits : (s : Seen) → PartsFit s.shape.now (parts_seen s) → SeenFits s
+seen_fits s h = record {
+  cpus = h.cpus;
+  tick = h.tick;
+  counted = h.counted;
+  registrations = h.registrations;
+  distinct = h.distinct;
+  pic = h.pins.pic;
+  ioapic = h.pins.ioapic;
+  places = h.whole.places;
+  pending = h.pending;
+  lapics = λ n low. h.whole.each (Lapic n) (below_is n s.shape.now.cpus low);
+}
+
+-- ---- the counts
+
+abbrev with_counts : Board → ℕ → ℕ → Board
+with_counts b length publications = record b { length = length; publications = publications }
+
+uncounted : {A : Type 0} (m : Plan A) (b : Board) (l n : ℕ) (ws : Wishes) (q : Part) → reaches m (with_counts b l n) ws q ≡ reaches m b ws q
+uncounted (done a) b l n ws q = refl
+uncounted (look Registry k) b l n ws q = ap (λ t. is_same Registry q || t) (uncounted (k b.registry) b l n ws q)
+uncounted (look Counters k) b l n ws q = ap (λ t. is_same Counters q || t) (uncounted (k b.counters) b l n ws q)
+uncounted (look Tick k) b l n ws q = ap (λ t. is_same Tick q || t) (uncounted (k b.tick) b l n ws q)
+uncounted (look Pic k) b l n ws q = ap (λ t. is_same Pic q || t) (uncounted (k b.pic) b l n ws q)
+uncounted (look Ioapic k) b l n ws q = ap (λ t. is_same Ioapic q || t) (uncounted (k b.ioapic) b l n ws q)
+uncounted (look (Lapic c) k) b l n ws q = ap (λ t. is_same (Lapic c) q || t) (uncounted (k (part_of b (Lapic c))) b l n ws q)
+uncounted (put Registry v rest) b l n ws q = ap (λ t. is_same Registry q || t) (uncounted rest (with_part b Registry v) l n ws q)
+uncounted (put Counters v rest) b l n ws q = ap (λ t. is_same Counters q || t) (uncounted rest (with_part b Counters v) l n ws q)
+uncounted (put Tick v rest) b l n ws q = ap (λ t. is_same Tick q || t) (uncounted rest (with_part b Tick v) l n ws q)
+uncounted (put Pic v rest) b l n ws q = ap (λ t. is_same Pic q || t) (uncounted rest (with_part b Pic v) l n ws q)
+uncounted (put Ioapic v rest) b l n ws q = ap (λ t. is_same Ioapic q || t) (uncounted rest (with_part b Ioapic v) l n ws q)
+uncounted (put (Lapic c) v rest) b l n ws q = ap (λ t. is_same (Lapic c) q || t) (uncounted rest (with_part b (Lapic c) v) l n ws q)
+uncounted (tell x rest) b l n ws q = uncounted rest b l n ws q
+uncounted (answer x rest) b l n ws q = uncounted rest b l n ws q
+uncounted (choose m about g k) b l n ws q = uncounted (k (g (next_wish ws))) b l n (later_wishes ws) q
+
+pub reach_uncounted : (b : Board) (l n : ℕ) (caller : Caller) (call : Call) (q : Part) → reach (with_counts b l n) caller call q ≡ reach b caller call q
+reach_uncounted b l n caller call q =
+    sym (reach_is_table (with_counts b l n) caller call [] q) ∙ uncounted (plan_on b caller call) b l n [] q ∙ reach_is_table b caller call [] q
+
+-- ---- what a board keeps
+
+if_here : {A : Type 0} (P : A → Type 0) (o : Option A) (d : A) → P (unwrap_or o d) → IfSome o P
+if_here P None d h = tt
+if_here P (Some x) d h = h
+
+if_mapped : {A B : Type 0} (f : A → B) (P : B → Type 0) (o : Option A) (d : B) → P (unwrap_or (option_map f o) d) → IfSome o (λ x. P (f x))
+if_mapped f P None d h = tt
+if_mapped f P (Some x) d h = h
+
+pub kept_fits : (a : Inside) → IsKept a → PartsFit a.shape a.rig.parts
+kept_fits a k = record {
+  cpus = k.sound.limits.cpus;
+  tick = k.sound.limits.tick;
+  whole = k.whole;
+  counted = if_here (λ (counts : List ℕ). length counts ≡ a.shape.counters) a.rig.parts.counters [] k.sound.counts.number;
+  registrations = if_mapped registry_of (RegistrationsFit a.shape.counters) a.rig.parts.registry opening_registry k.sound.named;
+  distinct = if_mapped registry_of (λ (r : RegistryPart). AllPairs (λ (row other : Irqfd). has_trigger row.trigger other ≡ false) r.irqfds) a.rig.parts.registry opening_registry k.sound.distinct.triggers;
+  pins = k.pins;
+  pending = if_here (λ (t : TickState). t.pending ≤ 2 ^ 40) a.rig.parts.tick (in_mode true) (omega (arith, k.sound.pending, k.sound.calls, k.sound.limits.calls));
+}
+
+-- a part that is missing is not among whole parts
+pub not_whole : {A B : Type 0} (f : A → B) (o : Option A) → is_some (option_map f o) ≡ true → o ≡ None → ⊥
+not_whole f None there none = absurd (true≢false (sym there))
+not_whole f (Some x) there none = cc
+
+pub not_here : {A : Type 0} (o : Option A) → is_some o ≡ true → o ≡ None → ⊥
+not_here None there none = absurd (true≢false (sym there))
+not_here (Some x) there none = cc

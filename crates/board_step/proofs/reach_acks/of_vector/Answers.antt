@@ -1,0 +1,11 @@
+use Rattle.std.proofs.Common.{◌≡◌, sym, ◌∙◌, arith}
+use Rattle.board_step.proofs.SeenNow.{vector_found, vector_none}
+use Rattle.board_step.proofs.reach_acks.of_vector.Goals as goal
+
+pub returns-then-is_ended : goal.returns-then-is_ended
+returns-then-is_ended c = vector_found c.args.seen.now c.args.vector c.args.part c.loop-pin.pin c.loop-pin-test.true (sym c.is_ended.ensures ∙ c.if-is_ended.true)
+
+pub returns : goal.returns
+returns c =
+    let last : c.loop-pin.pin ≡ 24 = omega (arith, c.loop-pin.invariant.0) in
+    vector_none c.args.seen.now c.args.vector c.args.part c.loop-pin.pin last c.loop-pin.invariant.1
