@@ -8,15 +8,13 @@ ghost use Rattle.tick_reinject.specs.Ticks.{tick_injects};
 ghost use Rattle.board_raise.specs.ReachLaws.{of_message};
 ghost use Rattle.msi_decode.specs.Messages.{message_in};
 ghost use Rattle.board_raise.specs.InHand.{parts_of};
-ghost use Rattle.board_calls.specs.Calls.{number_of};
 ghost use Rattle.board_step.specs.Whole.{board_of};
-ghost use Rattle.board_calls.specs.Processors.{lets_through};
 ghost use Rattle.board_step.specs.Reach.{of_ack, of_call};
 ghost use Rattle.board_step.specs.ReachNow.{reach_now};
 ghost use Rattle.board_calls.specs.Refusals.{range_reasons};
 ghost use Rattle.board_step.specs.Seen.{board_seen, SeenFits, PartsFit, of_pair_given, row, lapic_seen};
 
-use board_calls::refused_by_range;
+use board_calls::{hears_pair, refused_by_range};
 use crate::reach_accesses::{of_load, of_port_in, of_port_out, of_store, own_lapic};
 use crate::reach_acks::{of_cycle, of_end, pair};
 use crate::reach_registrations::{does_inject, does_release, of_write};
@@ -25,9 +23,9 @@ use crate::reach_signals::{
     of_message,
 };
 use crate::seen::Seen;
+use crate::step::number_of;
 use board_raise::Parts;
 use irq_base::{Call, Caller, MsiWord, Part, Shape};
-use lapic::Lapic;
 use tick_reinject::TickState;
 
 // A line of a GSI goes high or low.
@@ -52,14 +50,6 @@ fn injects(tick: &TickState) -> bool
     copy.tick()
 }
 
-// Whether LINT0 lets the pair through: it is not masked, and its mode is ExtINT.
-fn lets_through(lapic: &Lapic) -> bool
-    ensures { result ≡ lets_through lapic.now }
-{
-    let lint0 = lapic.lint0();
-    lint0 >> 16 & 1 == 0 && lint0 >> 8 & 7 == 7
-}
-
 // The pair, and where its output is active the pins of a cycle.
 fn of_pair_given(seen: &Seen, part: Part) -> bool
     requires fits { SeenFits seen.now }
@@ -76,7 +66,7 @@ fn of_ack(seen: &Seen, n: u16, part: Part) -> bool
 {
     let lapic = own_lapic(seen, n);
     is_lapic(n, part)
-        || (!lapic.has_nmi() && (n == 0 && lets_through(&lapic)) && of_pair_given(seen, part))
+        || (!lapic.has_nmi() && hears_pair(&lapic, n) && of_pair_given(seen, part))
 }
 
 // What a processor reaches that ends its interrupt.
@@ -162,16 +152,6 @@ fn of_msi(seen: &Seen, address: u64, payload: u32, part: Part) -> bool
 {
     let message = message_of(MsiWord { address, payload });
     of_message(&message, None, seen.shape.cpus, part)
-}
-
-// The number of a caller.
-fn number_of(caller: Caller) -> u16
-    ensures { result ≡ number_of caller }
-{
-    match caller {
-        Caller::Device(d) => d,
-        Caller::Cpu(n) => n,
-    }
 }
 
 // What a call reaches on the board of these parts; one whose arguments are out of range reaches nothing.

@@ -2,7 +2,6 @@
 ghost use Rattle.std.specs.Prelude.{◌≡◌, ◌<◌, ◌&&◌, not, false, IfSome, AllPairs};
 ghost use Rattle.std.specs.List.{list_any};
 ghost use Rattle.board_raise.specs.InHand.{registry_of};
-ghost use Rattle.board_calls.specs.Refusals.{is_trigger, is_counter, has_resample, is_signalled, resample_clashes};
 ghost use Rattle.irqfd_set.specs.declared.irqfds.Irqfd.{Irqfd as IrqfdRow};
 ghost use Rattle.irqfd_set.specs.Rows.{has_trigger, of_trigger, named_row, has_resampler, without_row, is_named, resamples};
 ghost use Rattle.board_step.specs.Reach.{of_counter, of_write, does_inject, does_release};
@@ -10,6 +9,7 @@ ghost use Rattle.board_step.specs.Seen.{routing_seen, SeenFits, is_trigger_in, i
 
 use crate::reach_signals::{is_counters, of_gsi};
 use crate::seen::Seen;
+use board_calls::assign_refusal;
 use board_raise::RegistryPart;
 use irq_base::Part;
 use irqfd_set::{Irqfd, Irqfds};
@@ -46,48 +46,6 @@ pub(crate) fn of_write(seen: &Seen, counter: u16, n: u64, part: Part) -> bool
     }
 }
 
-// Whether the counter is the trigger of a living irqfd.
-#[tactic(auto, using(crate::proofs::SeenRows::trigger_rules))]
-fn is_trigger(irqfds: &Irqfds, counter: u16) -> bool
-    ensures { result ≡ is_trigger_in irqfds.now counter }
-{
-    irqfds.of_trigger(counter).is_some()
-}
-
-// Whether the counter is a resample counter or that of an acknowledge notifier.
-fn is_signalled(registry: &RegistryPart, counter: u16) -> bool
-    ensures { result ≡ is_signalled (registry_of registry.now) counter }
-{
-    is_resampled(registry.irqfds.rows(), counter) || registry.watches.has_counter(counter)
-}
-
-// Whether a row has the resample counter.
-fn is_resampled(rows: &[Irqfd], counter: u16) -> bool
-    ensures { result ≡ list_any (has_resample counter) rows.now }
-{
-    rows.iter().any(|row| is_counter(counter, row.resample))
-}
-
-// Whether there is a counter, and it is this one.
-fn is_counter(counter: u16, other: Option<u16>) -> bool
-    ensures { result ≡ is_counter counter other }
-{
-    match other {
-        None => false,
-        Some(other) => other == counter,
-    }
-}
-
-// Whether a resample counter, if there is one, is this trigger or that of a living irqfd.
-fn resample_clashes(registry: &RegistryPart, trigger: u16, resample: Option<u16>) -> bool
-    ensures { result ≡ resample_clashes (registry_of registry.now) trigger resample }
-{
-    match resample {
-        None => false,
-        Some(counter) => counter == trigger || is_trigger(&registry.irqfds, counter),
-    }
-}
-
 // Whether an irqfd that is made injects: it is not refused, and its trigger has a count.
 #[tactic(auto, using(crate::proofs::SeenRows::assign_rules))]
 pub(crate) fn does_inject(seen: &Seen, trigger: u16, resample: Option<u16>) -> bool
@@ -103,8 +61,7 @@ pub(crate) fn does_inject(seen: &Seen, trigger: u16, resample: Option<u16>) -> b
 fn is_free(registry: &RegistryPart, trigger: u16, resample: Option<u16>) -> bool
     ensures { result ≡ is_free (registry_of registry.now) trigger resample }
 {
-    !is_trigger(&registry.irqfds, trigger)
-        && !(is_signalled(registry, trigger) || resample_clashes(registry, trigger, resample))
+    assign_refusal(registry, trigger, resample).is_none()
 }
 
 // Whether with the row of that trigger and GSI, if there is one, the last resampler of the GSI leaves.

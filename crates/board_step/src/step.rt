@@ -18,7 +18,7 @@ use board_raise::{Lacks, Rig};
 use irq_base::{Call, Caller, Events, Reply, Shape};
 
 // The number of the caller.
-fn number_of(caller: Caller) -> u16
+pub(crate) fn number_of(caller: Caller) -> u16
     ensures { result ≡ number_of caller }
 {
     match caller {
