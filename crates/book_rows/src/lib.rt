@@ -7,6 +7,7 @@ mod machine;
 mod moving;
 mod posting;
 mod publishing;
+mod several;
 mod threads;
 
 pub use asking::{Refused, add, add_once, change};
