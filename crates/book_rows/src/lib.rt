@@ -7,6 +7,7 @@ mod machine;
 mod moving;
 mod posting;
 mod publishing;
+mod readers;
 mod several;
 mod threads;
 
