@@ -64,7 +64,8 @@ one_registry s e t h = refl
 pub as_many_words : (s : Board) (e : Change) (t : Board) → Changed s e t → length (words_of t) ≡ length (words_of s)
 as_many_words s e t h = length-words_of _ ∙ sym (length-words_of _)
 
-pub unput_stays : (s : Board) (e : Change) (t : Board) (p : ℕ) → Changed s e t → put_reach e p ≡ false → slice_get (registries_of t) p ≡ slice_get (registries_of s) p
+pub unput_stays : (s : Board) (e : Change) (t : Board) (p : ℕ) → Changed s e t → put_reach e p ≡ false →
+    slice_get (registries_of t) p ≡ slice_get (registries_of s) p
 unput_stays s (Put c x) t zero h off = absurd (let q : true ≡ false = off in cc)
 unput_stays s (Put c x) t (suc p) h off = refl
 unput_stays s (Pass c) t p h off = ap (λ (y : Board). slice_get (registries_of y) p) h.1
@@ -80,7 +81,8 @@ unput_words s (Put c x) t h off = absurd (let q : true ≡ false = off in cc)
 unput_words s (Pass c) t h off = ap words_of h.1
 
 -- entries and puts of a state are counted
-pub puts-counted : (s : Board) (h : List Change) (t : Board) → Runs Changed s h t → (t.changes ≡ s.changes + length h) × (t.puts ≡ s.puts + count_by is_put h)
+pub puts-counted : (s : Board) (h : List Change) (t : Board) → Runs Changed s h t →
+    (t.changes ≡ s.changes + length h) × (t.puts ≡ s.puts + count_by is_put h)
 puts-counted s [] t runs = (let e = ap (λ (x : Board). x.changes) runs in omega arith, let e = ap (λ (x : Board). x.puts) runs in omega arith)
 puts-counted s (Put c x ∷ es) t (m, step, more) =
     let a = puts-counted m es t more in
@@ -95,7 +97,8 @@ puts-counted s (Pass c ∷ es) t (m, step, more) =
     let n = sum_by-cons (λ y. cond (is_put y) 1 0) (Pass c) es in
     (omega (arith, a.0), omega (arith, a.1))
 
-low_puts : (s : Board) (h : List Change) (t : Board) → Runs Changed s h t → s.changes ≤ 2 ^ 40 → s.puts ≤ 2 ^ 20 → (t.changes ≤ 2 ^ 40) × (t.puts ≤ 2 ^ 20)
+low_puts : (s : Board) (h : List Change) (t : Board) → Runs Changed s h t → s.changes ≤ 2 ^ 40 → s.puts ≤ 2 ^ 20 →
+    (t.changes ≤ 2 ^ 40) × (t.puts ≤ 2 ^ 20)
 low_puts s [] t runs low few = (let e = ap (λ (x : Board). x.changes) runs in omega arith, let e = ap (λ (x : Board). x.puts) runs in omega arith)
 low_puts s (Put c x ∷ es) t (m, step, more) low few =
     let b = ap (λ (y : Board). y.changes) step.2 in
