@@ -7,6 +7,8 @@ mod machine;
 mod moving;
 mod posting;
 mod publishing;
+mod readers;
+mod several;
 mod threads;
 
 pub use asking::{Refused, add, add_once, change};

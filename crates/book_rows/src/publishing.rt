@@ -17,7 +17,10 @@ use turn_book::{Entering, Front, NoMemory, Pen, Took, TurnBook, part_of};
 const MOST_POSTS: u32 = 1 << 20;
 
 /// A book over one number, and the desk's pen.
-fn posted(alloc: Global, number: u64) -> Result<(TurnBook<Posting>, Pen<Posting>), NoMemory>
+pub(crate) fn posted(
+    alloc: Global,
+    number: u64,
+) -> Result<(TurnBook<Posting>, Pen<Posting>), NoMemory>
     requires { number < 2 ^ 63 }
     ensures book { IfOk result (λ made. made.1.seat.table_id ≡ made.0.table.shared.table_id) }
     ensures count { IfOk result (λ made. made.0.table.shared.table_id.slots ≡ 1) }
@@ -152,7 +155,7 @@ fn pass_once(
 }
 
 /// Looks and posts a number. The pen holds the number.
-fn post(
+pub(crate) fn post(
     book: &TurnBook<Posting>,
     pen: &mut Pen<Posting>,
     caller: u32,
@@ -183,7 +186,7 @@ fn pass(book: &TurnBook<Posting>, pen: &mut Pen<Posting>, caller: u32) -> Result
 }
 
 /// Looks and reads the first word.
-fn read_first(book: &TurnBook<Posting>, pen: &mut Pen<Posting>) -> (Front, u64)
+pub(crate) fn read_first(book: &TurnBook<Posting>, pen: &mut Pen<Posting>) -> (Front, u64)
     requires book { pen.old.seat.table_id ≡ book.now.table.shared.table_id }
     requires width { book.now.width ≡ 2 }
     ensures book { pen.new.seat.table_id ≡ pen.old.seat.table_id }
@@ -196,7 +199,7 @@ fn read_first(book: &TurnBook<Posting>, pen: &mut Pen<Posting>) -> (Front, u64)
 }
 
 /// Reads the second word and looks again: both words are the published ones, unless a publication came between.
-fn read_second(
+pub(crate) fn read_second(
     book: &TurnBook<Posting>,
     pen: &mut Pen<Posting>,
     had: Front,

@@ -1,17 +1,17 @@
 -- What is left at a place in the lines.
-use Rattle.std.proofs.Common.{◌≡◌, ℕ, zero, suc, ◌+◌, ◌-◌, ◌<◌, ◌≤◌, List, [], ◌∷◌, ◌++◌, Some, None, true, false, drop, refl, ap, sym, ◌∙◌, subst, ltb-false, ltb-true, nat_lt, if◌then◌else◌, fold, arith}
+use Rattle.std.proofs.Common.{◌≡◌, ℕ, zero, suc, ◌+◌, ◌-◌, ◌<◌, List, [], ◌∷◌, ◌++◌, Some, None, true, false, drop, refl, ap, sym, ◌∙◌, subst, ltb-false, ltb-true, nat_lt, if◌then◌else◌, fold, arith}
 use Rattle.std.specs.declared.option.Option.{Option}
 use Rattle.std.proofs.lemmas.List.Sums.{fold-append}
 use Rattle.irq_base.specs.declared.call.Call.{Call}
-use Rattle.irq_base.specs.declared.call.Call.TheVariants.{Ack, Eoi}
+use Rattle.irq_base.specs.declared.call.Call.TheVariants.{Ack}
 use Rattle.irq_base.specs.declared.reply.Reply.{Reply}
 use Rattle.irq_base.specs.declared.reply.Reply.TheVariants.{Signal, Done, Count, Empty, Removed, Value, Exit, Vector, Extint, Nmi, Ended, Nothing, Held, Refused}
 use Rattle.script_text.specs.declared.task.Task.{Task}
 use Rattle.script_text.specs.declared.task.Task.TheVariants.{Once, Repeat, Serve}
 use Rattle.script_text.specs.declared.progress.Phase.{Phase}
-use Rattle.script_text.specs.declared.progress.Phase.TheVariants.{Round, End, Slave, Master}
+use Rattle.script_text.specs.declared.progress.Phase.TheVariants.{Round}
 use Rattle.script_text.specs.declared.progress.Progress.{Progress}
-use Rattle.script_text.specs.Asks.{Asks, ask, no_more, next_call, answered, goes_on, once, times, after_ack, rounds, unrolled, line_asks, rest_of_line, rest_of_lines, left_at}
+use Rattle.script_text.specs.Asks.{Asks, ask, no_more, next_call, answered, phase_after, goes_on, once, times, after_ack, rounds, unrolled, line_asks, rest_of_line, rest_of_lines, left_at}
 use Rattle.script_text.specs.Index.{IsCounted}
 
 times-suc : (n : ℕ) (call : Call) (rest : Asks) → times (suc n) call rest ≡ once call (times n call rest)
@@ -84,21 +84,45 @@ round-goes t n d p reply o rest is counted over e =
     go zero some = absurd (omega (arith, some))
     go (suc m) some = more-rounds m d rest ∙ sym (over m)
 
-pub other-reply : (reply : Reply) (rest : Asks) → ((x : ℕ) → reply ≡ Vector x → ⊥) → ((x : ℕ) → reply ≡ Extint x → ⊥) → after_ack reply rest ≡ rest
-other-reply (Vector v) rest h k = absurd (h v refl)
-other-reply (Extint v) rest h k = absurd (k v refl)
-other-reply (Signal s) rest h k = refl
-other-reply Done rest h k = refl
-other-reply (Count n) rest h k = refl
-other-reply Empty rest h k = refl
-other-reply (Removed n) rest h k = refl
-other-reply (Value v) rest h k = refl
-other-reply Exit rest h k = refl
-other-reply Nmi rest h k = refl
-other-reply (Ended v) rest h k = refl
-other-reply Nothing rest h k = refl
-other-reply (Held n) rest h k = refl
-other-reply (Refused r) rest h k = refl
+-- what is left of a round and behind it, after the reply to its acknowledge
+abbrev round_left : ℕ → ℕ → Asks → Option Phase → Asks
+round_left m d rest None = rounds (m - d) rest
+round_left m d rest (Some q) = rest_of_line (Serve (suc m)) d q rest
+
+round-left : (m d : ℕ) (rest : Asks) (reply : Reply) → round_left m d rest (phase_after reply) ≡ after_ack reply (rounds (m - d) rest)
+round-left m d rest (Vector v) = refl
+round-left m d rest (Extint v) = refl
+round-left m d rest (Signal s) = refl
+round-left m d rest Done = refl
+round-left m d rest (Count n) = refl
+round-left m d rest Empty = refl
+round-left m d rest (Removed n) = refl
+round-left m d rest (Value v) = refl
+round-left m d rest Exit = refl
+round-left m d rest Nmi = refl
+round-left m d rest (Ended v) = refl
+round-left m d rest Nothing = refl
+round-left m d rest (Held n) = refl
+round-left m d rest (Refused r) = refl
+
+after-round : (m d : ℕ) (rest : Asks) (reply : Reply) (p : Phase) (o r : Option Phase) → p ≡ Round → o ≡ phase_after reply → o ≡ r →
+    round_left m d rest r ≡ answered (rest_of_line (Serve (suc m)) d p rest) reply
+after-round m d rest reply p o r begins is e =
+    ap (round_left m d rest) (sym e ∙ is) ∙ round-left m d rest reply ∙ ap (λ p. answered (rest_of_line (Serve (suc m)) d p rest) reply) (sym begins)
+
+pub round-over : (m d : ℕ) (rest : Asks) (reply : Reply) (p : Phase) (o : Option Phase) → p ≡ Round → o ≡ phase_after reply → o ≡ None →
+    answered (rest_of_line (Serve (suc m)) d p rest) reply ≡ rounds (m - d) rest
+round-over m d rest reply p o begins is none = sym (after-round m d rest reply p o None begins is none)
+
+-- a round that goes on
+pub round-on : (t : Task) (n d : ℕ) (p q : Phase) (reply : Reply) (o : Option Phase) (rest : Asks) → t ≡ Serve n → IsCounted t →
+    p ≡ Round → o ≡ phase_after reply → o ≡ Some q → rest_of_line t d q rest ≡ answered (rest_of_line t d p rest) reply
+round-on t n d p q reply o rest is counted begins tells some =
+    subst (λ t. IsCounted t → rest_of_line t d q rest ≡ answered (rest_of_line t d p rest) reply) (sym is) (go n) counted
+  where
+    go : (n : ℕ) → 0 < n → rest_of_line (Serve n) d q rest ≡ answered (rest_of_line (Serve n) d p rest) reply
+    go zero none = absurd (omega (arith, none))
+    go (suc m) few = after-round m d rest reply p o (Some q) begins tells some
 
 -- the first line, not begun
 line-begins : (t : Task) (rest : Asks) → rest_of_line t 0 Round rest ≡ line_asks t rest

@@ -1,28 +1,19 @@
 -- A call that is spelled is read again.
-use Rattle.std.proofs.Common.{◌≡◌, ℕ, ◌+◌, ◌^◌, ◌<◌, ◌≤◌, Bool, true, false, nat_eq, List, [], ◌∷◌, ◌++◌, map, length, codes, Some, None, Ok, Err, refl, ap, sym, ◌∙◌, subst, All, arith}
+use Rattle.std.proofs.Common.{◌≡◌, ℕ, ◌^◌, ◌<◌, ◌≤◌, Bool, true, false, List, ◌∷◌, codes, Some, None, Ok, refl, ap, arith}
 use Rattle.std.specs.Fmt.{decimal}
-use Rattle.std.specs.List.{slice_split, list_all}
 use Rattle.std.specs.declared.option.Option.{Option}
-use Rattle.std.specs.declared.result.Result.{Result}
-use Rattle.std.proofs.lemmas.List.{append-nil}
-use Rattle.std.proofs.lemmas.List.Elements.{All-cons, All-nil, All-head, All-tail}
-use Rattle.std.proofs.lemmas.List.Folds.{list_all-append}
-use Rattle.std.proofs.lemmas.List.Splits.{slice_split_at, slice_split_none}
-use Rattle.irq_base.specs.declared.fault.LineCause.{LineCause}
 use Rattle.irq_base.specs.declared.call.Call.{Call}
-use Rattle.irq_base.specs.declared.call.Call.TheVariants.{Line, Msi, Write, Take, Assign, Deassign, Reroute, Attach, Detach, Watch, Unwatch, Tick, TickMode, PortOut, PortIn, Store, Load, Ack, Inta, Eoi}
-use Rattle.irq_base.specs.declared.call.Row.{Row}
-use Rattle.irq_base.specs.declared.call.Row.TheVariants.{Pic, Ioapic, Msi as MsiRow}
+use Rattle.irq_base.specs.declared.call.Call.TheVariants.{Attach, Detach}
 use Rattle.irq_base.specs.declared.call.Space.{Space}
 use Rattle.irq_base.specs.declared.call.Space.TheVariants.{Port, Memory}
-use Rattle.script_text.specs.Causes.{of_one, of_two, of_three, of_five}
-use Rattle.script_text.specs.Words.{same_text, parts_of}
+use Rattle.script_text.specs.Causes.{of_two, of_five}
+use Rattle.script_text.specs.Words.{same_text}
 use Rattle.script_text.specs.Numbers.{hex_text, value_width, hex64, hex32, hex16, number64, number16, number8}
 use Rattle.script_text.specs.Commands.{command, optional, level, switch}
-use Rattle.script_text.specs.Spelling.{call_words, resample_words, match_words, binding_words, space_words, level_word, switch_word, value_text, row_word}
-use Rattle.script_text.specs.Fitting.{FitsRow, FitsCall, FitsIfThere}
+use Rattle.script_text.specs.Spelling.{call_words, resample_words, match_words, binding_words, level_word, switch_word}
+use Rattle.script_text.specs.Fitting.{FitsIfThere}
 use Rattle.script_text.proofs.Again.{hex-again, decimal-again}
-use Rattle.script_text.proofs.WordsAgain.{is_word, are_words, is_graphic, both-true, decimal-word, decimal-graphic, hex-word, hex-graphic, word-append}
+use Rattle.script_text.proofs.WordsAgain.{is_word, are_words, both-true, decimal-word, hex-word}
 
 -- numbers of each kind
 pub number64-again : (n : ℕ) → n < 2 ^ 64 → number64 (decimal n) ≡ Ok n

@@ -1,24 +1,22 @@
 -- What is read fits: each command, and each actor line.
-use Rattle.std.proofs.Common.{◌≡◌, ℕ, ◌+◌, ◌^◌, ◌<◌, ◌≤◌, Bool, true, false, not, ◌&&◌, ◌||◌, nat_lt, List, [], ◌∷◌, take, drop, length, codes, Some, None, Ok, Err, IfOk, if◌then◌else◌, refl, arith, All}
+use Rattle.std.proofs.Common.{◌≡◌, ℕ, ◌^◌, ◌<◌, Bool, true, false, not, ◌||◌, nat_lt, List, [], ◌∷◌, take, drop, length, codes, Ok, Err, IfOk, if◌then◌else◌, refl, All}
 use Rattle.std.specs.List.{list_all}
 use Rattle.std.specs.declared.option.Option.{Option}
 use Rattle.std.specs.declared.result.Result.{Result}
 use Rattle.irq_base.specs.declared.fault.LineCause.{LineCause}
-use Rattle.irq_base.specs.declared.fault.LineCause.TheVariants.{Word, Actor}
+use Rattle.irq_base.specs.declared.fault.LineCause.TheVariants.{Actor}
 use Rattle.irq_base.specs.declared.call.Call.{Call}
 use Rattle.irq_base.specs.declared.call.Call.TheVariants.{Line, Msi, Write, Take, Assign, Deassign, Reroute, Attach, Detach, Watch, Unwatch, Tick, TickMode, PortOut, PortIn, Store, Load, Ack, Inta, Eoi}
 use Rattle.irq_base.specs.declared.call.Caller.{Caller}
 use Rattle.irq_base.specs.declared.call.Caller.TheVariants.{Device, Cpu}
-use Rattle.irq_base.specs.declared.call.Row.{Row}
 use Rattle.irq_base.specs.declared.call.Space.{Space}
 use Rattle.irq_base.specs.declared.shape.Shape.{Shape}
 use Rattle.script_text.specs.declared.task.Task.{Task}
 use Rattle.script_text.specs.declared.task.Task.TheVariants.{Once, Repeat, Serve}
-use Rattle.script_text.specs.declared.task.ActorLine.{ActorLine}
-use Rattle.script_text.specs.Causes.{both, all_three, all_five, of_one, of_two, of_five}
+use Rattle.script_text.specs.Causes.{both, all_three, all_five, of_two, of_five}
 use Rattle.script_text.specs.Words.{same_text, two}
 use Rattle.script_text.specs.Numbers.{hex64, hex32, hex16, number64, number16, number8}
-use Rattle.script_text.specs.Commands.{command, assign, binding, optional, space, level, switch, rows, one_field}
+use Rattle.script_text.specs.Commands.{command, assign, binding, optional, space, level, switch, rows}
 use Rattle.script_text.specs.Scripts.{is_digit, caller, times_of, repeated, task, may_ask, if_allowed, actor_line}
 use Rattle.script_text.specs.Fitting.{FitsCall, FitsIfThere, FitsRow, FitsTask, FitsCaller, IsTimes, IsLine}
 use Rattle.script_text.proofs.FieldsFit.{if-either, one-fits, two-fits, three-fits, none-fits, of-one, of-two, of-three, Below, Any, any, fits-hex64, fits-hex32, fits-hex16, fits-number64, fits-number16, fits-number8, decimal-fits, optional-fits, rows-fit}

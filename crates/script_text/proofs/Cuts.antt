@@ -1,7 +1,6 @@
 -- A text cut at its first space or line feed.
-use Rattle.std.proofs.Common.{◌≡◌, ℕ, Bool, true, false, nat_eq, nat_lt, cond, Some, None, take, drop, ltb-true, ltb-false, refl, [], ◌+◌, ◌<◌, ◌≤◌, List, ◌∷◌, ◌++◌, length, get_or, ap, sym, ◌∙◌, add-one, drop-cons, arith, MatchOption}
-use Rattle.std.specs.List.{position, position_or_len, slice_split}
-use Rattle.std.specs.declared.option.Option.{Option}
+use Rattle.std.proofs.Common.{◌≡◌, ℕ, true, false, nat_eq, nat_lt, cond, Some, None, take, drop, ltb-true, ltb-false, refl, [], ◌+◌, ◌<◌, ◌≤◌, List, ◌∷◌, length, ap, sym, ◌∙◌, add-one, drop-cons, arith}
+use Rattle.std.specs.List.{position, position_or_len}
 use Rattle.std.proofs.lemmas.List.Splits.{slice_split_first, slice_split_none}
 use Rattle.std.proofs.lemmas.List.Sums.{fails_before_first}
 use Rattle.script_text.specs.Words.{parts_of, more_parts, two_of, three_of}

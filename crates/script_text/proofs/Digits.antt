@@ -1,12 +1,11 @@
 -- Digits one after another.
-use Rattle.std.proofs.Common.{◌≡◌, ℕ, suc, ◌+◌, ◌*◌, ◌/◌, ◌%◌, ◌^◌, ◌<◌, ◌≤◌, List, [], ◌∷◌, ◌++◌, true, false, nat_eq, nat_le, ◌&&◌, drop, length, get_or, drop-cons, refl, ap, sym, ◌∙◌, append_assoc, add-one, ◌-◌, if◌then◌else◌, lit<, arith, Some, None, Ok, Err}
+use Rattle.std.proofs.Common.{◌≡◌, ℕ, suc, ◌+◌, ◌*◌, ◌/◌, ◌%◌, ◌^◌, ◌<◌, ◌≤◌, List, [], ◌∷◌, ◌++◌, true, false, nat_eq, drop, length, get_or, drop-cons, refl, ap, sym, ◌∙◌, append_assoc, add-one, ◌-◌, if◌then◌else◌, lit<, arith, Some, None, Err}
 use Rattle.std.specs.Prelude.{option_and_then}
 use Rattle.std.proofs.lemmas.List.{append-nil}
 use Rattle.std.specs.declared.option.Option.{Option}
 use Rattle.std.proofs.Math.Nat.{pow-le-pow_right}
 use Rattle.std.proofs.lemmas.Bool.Decides.{nat_tests}
 use Rattle.std.proofs.lemmas.Grind.{pow_more}
-use Rattle.irq_base.specs.declared.fault.LineCause.{LineCause}
 use Rattle.irq_base.specs.declared.fault.LineCause.TheVariants.{Number}
 use Rattle.script_text.specs.Numbers.{hex_value, hex_from, decimal_value, decimal_from, between, hex_digit, hex_digits, hex_places}
 

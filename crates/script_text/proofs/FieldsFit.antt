@@ -1,5 +1,5 @@
 -- What is read fits: numbers, rows and calls.
-use Rattle.std.proofs.Common.{◌≡◌, ℕ, ◌+◌, ◌^◌, ◌<◌, ◌≤◌, Bool, true, false, ◌&&◌, nat_eq, nat_lt, nat_le, List, [], ◌∷◌, length, codes, Some, None, Ok, Err, IfOk, if◌then◌else◌, refl, All, arith}
+use Rattle.std.proofs.Common.{◌≡◌, ℕ, ◌^◌, ◌<◌, ◌≤◌, Bool, true, false, ◌&&◌, nat_eq, nat_lt, nat_le, List, [], ◌∷◌, length, codes, Some, None, Ok, Err, IfOk, if◌then◌else◌, refl, All, arith}
 use Rattle.std.specs.Prelude.{slice_index, ◌||◌}
 use Rattle.std.specs.declared.option.Option.{Option}
 use Rattle.std.specs.declared.result.Result.{Result}
@@ -7,16 +7,13 @@ use Rattle.std.proofs.lemmas.Bool.Decides.{nat_tests}
 use Rattle.std.proofs.lemmas.List.Elements.{All-cons, All-nil}
 use Rattle.irq_base.specs.declared.fault.LineCause.{LineCause}
 use Rattle.irq_base.specs.declared.fault.LineCause.TheVariants.{Number}
-use Rattle.irq_base.specs.declared.call.Call.{Call}
-use Rattle.irq_base.specs.declared.call.Call.TheVariants.{Line, Msi, Write, Take, Assign, Deassign, Reroute, Attach, Detach, Watch, Unwatch, Tick, TickMode, PortOut, PortIn, Store, Load, Ack, Inta, Eoi}
 use Rattle.irq_base.specs.declared.call.Row.{Row}
 use Rattle.irq_base.specs.declared.call.Row.TheVariants.{Pic, Ioapic, Msi as MsiRow}
-use Rattle.irq_base.specs.declared.call.Space.{Space}
-use Rattle.script_text.specs.Causes.{of_one, of_two, of_three, of_five}
+use Rattle.script_text.specs.Causes.{of_one, of_two, of_three}
 use Rattle.script_text.specs.Words.{same_text, parts_of, none, one, two, three, is_empty}
 use Rattle.script_text.specs.Numbers.{between, hex, hex_from, decimal_in, decimal_from, hex64, hex32, hex16, number64, number16, number8}
-use Rattle.script_text.specs.Commands.{command, assign, binding, optional, fixed_word, space, level, switch, to_pin, to_message, to_target, row, row_parts, rows, with_row, one_field, two_fields, three_fields}
-use Rattle.script_text.specs.Fitting.{FitsRow, FitsCall, FitsIfThere}
+use Rattle.script_text.specs.Commands.{optional, fixed_word, to_pin, to_message, to_target, row, row_parts, rows, with_row}
+use Rattle.script_text.specs.Fitting.{FitsRow, FitsIfThere}
 
 -- an answer of either arm
 pub if-either : {X : Type 0} (P : X → Type 0) (b : Bool) (r s : Result X LineCause) → IfOk r P → IfOk s P → IfOk (if b then r else s) P

@@ -6,6 +6,7 @@ mod LineCuts
 mod Indexes
 mod Readings
 mod Tasks
+mod Allowed
 mod Asked
 mod Texts
 mod Again

@@ -1,6 +1,6 @@
 -- Lines of a text.
-use Rattle.std.proofs.Common.{◌≡◌, ℕ, Bool, true, false, nat_eq, nat_lt, cond, Some, None, take, ltb-true, ltb-false, refl, [], ◌+◌, ◌<◌, ◌≤◌, if◌then◌else◌, suc, List, ◌∷◌, ◌++◌, length, drop, ap, sym, ◌∙◌, arith}
-use Rattle.std.specs.List.{position_or_len, slice_split, onto_first}
+use Rattle.std.proofs.Common.{◌≡◌, ℕ, true, false, nat_eq, nat_lt, cond, Some, None, take, ltb-true, ltb-false, refl, [], ◌+◌, ◌<◌, ◌≤◌, suc, List, ◌∷◌, length, drop, ap, ◌∙◌, arith}
+use Rattle.std.specs.List.{position_or_len, slice_split}
 use Rattle.std.specs.declared.option.Option.{Option}
 use Rattle.std.proofs.lemmas.Bool.Decides.{nat_tests}
 use Rattle.std.proofs.lemmas.List.Splits.{length-slice_split, slice_split_first, slice_split_none}

@@ -1,16 +1,12 @@
 -- Lines that are spelled are read again, one after another.
-use Rattle.std.proofs.Common.{◌≡◌, ℕ, suc, ◌+◌, ◌^◌, ◌<◌, ◌≤◌, Bool, true, false, not, nat_eq, nat_lt, ◌&&◌, ◌||◌, List, [], ◌∷◌, ◌++◌, take, drop, length, codes, Ok, Err, if◌then◌else◌, refl, ap, sym, ◌∙◌, All, arith}
+use Rattle.std.proofs.Common.{◌≡◌, ℕ, suc, ◌^◌, ◌<◌, ◌≤◌, true, false, not, nat_eq, nat_lt, ◌||◌, List, [], ◌∷◌, ◌++◌, length, codes, Ok, Err, if◌then◌else◌, refl, ap, ◌∙◌, arith}
 use Rattle.std.specs.Fmt.{decimal}
 use Rattle.std.specs.Str.Parse.{AllDigits}
-use Rattle.std.specs.List.{list_all, list_any}
-use Rattle.std.specs.declared.result.Result.{Result}
+use Rattle.std.specs.List.{list_all}
 use Rattle.std.proofs.lemmas.Bool.Decides.{nat_tests}
-use Rattle.std.proofs.lemmas.List.Elements.{All-cons, All-nil}
-use Rattle.std.proofs.lemmas.List.Splits.{slice_split_at}
 use Rattle.std.proofs.lemmas.Str.Parse.{digit_from_value}
 use Rattle.std.proofs.lemmas.Fmt.{decimal_is_IsNumeral, decimal_nonempty}
 use Rattle.irq_base.specs.Text.{caller_text}
-use Rattle.irq_base.specs.declared.fault.LineCause.{LineCause}
 use Rattle.irq_base.specs.declared.fault.LineCause.TheVariants.{Char, End, Word, Actor}
 use Rattle.irq_base.specs.declared.call.Call.{Call}
 use Rattle.irq_base.specs.declared.call.Caller.{Caller}
@@ -21,17 +17,16 @@ use Rattle.script_text.specs.declared.task.Task.{Task}
 use Rattle.script_text.specs.declared.task.Task.TheVariants.{Once, Repeat, Serve}
 use Rattle.script_text.specs.declared.task.ActorLine.{ActorLine}
 use Rattle.script_text.specs.Causes.{both, of_one, of_two}
-use Rattle.script_text.specs.Words.{same_text, is_empty, is_empty_word, words_of, parts_of, ended_lines, is_ended, front_parts, last_part}
+use Rattle.script_text.specs.Words.{same_text, words_of}
 use Rattle.script_text.specs.Numbers.{number16}
 use Rattle.script_text.specs.Commands.{command, one_field}
-use Rattle.script_text.specs.Scripts.{Script, Standing, is_printable, is_passed_over, is_digit, caller, times_of, repeated, task, may_ask, if_allowed, actor_line, is_over, by_place, worded, judge}
-use Rattle.script_text.specs.Spelling.{call_words, task_words, actor_words, spaced, joined, with_feeds}
+use Rattle.script_text.specs.Scripts.{Script, is_passed_over, is_digit, caller, times_of, repeated, task, if_allowed, actor_line, is_over, by_place, worded, judge}
+use Rattle.script_text.specs.Spelling.{call_words, task_words, actor_words, spaced}
 use Rattle.script_text.specs.Fitting.{FitsTask, FitsCaller, IsLine, IsTimes}
 use Rattle.script_text.proofs.Again.{decimal-again}
-use Rattle.script_text.proofs.WordsAgain.{is_word, are_words, is_graphic, both-true, and-left, and-right, words-again, none-empty, printable-joined, decimal-graphic, decimal-word, word-of}
-use Rattle.script_text.proofs.CommandsAgain.{Again, number16-again}
+use Rattle.script_text.proofs.WordsAgain.{is_word, are_words, both-true, words-again, none-empty, printable-joined, decimal-word}
+use Rattle.script_text.proofs.CommandsAgain.{number16-again}
 use Rattle.script_text.proofs.CallsAgain.{call-again}
-use Rattle.script_text.proofs.LineCuts.{some_part, front-more, last-more}
 
 -- a line that begins with no `#` is judged by its words
 not-passed : (b : ℕ) (bs : List ℕ) → nat_eq b 35 ≡ false → is_passed_over (b ∷ bs) ≡ false

@@ -1,7 +1,5 @@
 -- Lines one after another.
-use Rattle.std.proofs.Common.{◌≡◌, ℕ, ◌+◌, Bool, true, false, nat_eq, List, [], ◌∷◌, length, Some, None, Ok, Err, refl, ap, sym, ◌∙◌}
-use Rattle.std.specs.declared.option.Option.{Option}
-use Rattle.std.specs.declared.result.Result.{Result}
+use Rattle.std.proofs.Common.{◌≡◌, ℕ, ◌+◌, nat_eq, List, length, Some, None, Ok, Err, ap, sym, ◌∙◌}
 use Rattle.irq_base.specs.declared.fault.LineCause.{LineCause}
 use Rattle.script_text.specs.declared.judging.Place.{Place}
 use Rattle.script_text.specs.Words.{cut_at, ended_lines, is_ended}

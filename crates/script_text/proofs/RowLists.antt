@@ -1,11 +1,11 @@
 -- Rows one after another.
-use Rattle.std.proofs.Common.{◌≡◌, ℕ, List, [], ◌∷◌, ◌++◌, refl, ap, sym, ◌∙◌, append_assoc, Ok, Err}
+use Rattle.std.proofs.Common.{◌≡◌, List, [], ◌∷◌, ◌++◌, refl, ap, ◌∙◌, append_assoc, Ok, Err}
 use Rattle.std.specs.declared.result.Result.{Result}
 use Rattle.std.proofs.lemmas.List.{append-nil}
 use Rattle.irq_base.specs.declared.call.Row.{Row}
 use Rattle.irq_base.specs.declared.fault.LineCause.{LineCause}
 use Rattle.script_text.specs.Causes.{of_one}
-use Rattle.script_text.specs.Commands.{row, rows, with_row}
+use Rattle.script_text.specs.Commands.{with_row}
 
 -- a row that is right
 pub rows-more : (rs : List Row) (r : Row) (read : Result (List Row) LineCause) →

@@ -1,5 +1,5 @@
 -- The text of a script is read as that script.
-use Rattle.std.proofs.Common.{◌≡◌, ℕ, ◌+◌, ◌^◌, ◌<◌, ◌≤◌, Bool, true, false, not, nat_eq, List, [], ◌∷◌, ◌++◌, map, codes, Ok, Err, if◌then◌else◌, refl, ap, sym, ◌∙◌, append_assoc, All, arith}
+use Rattle.std.proofs.Common.{◌≡◌, ℕ, ◌+◌, ◌≤◌, Bool, true, false, not, nat_eq, List, [], ◌∷◌, ◌++◌, map, codes, Ok, Err, if◌then◌else◌, refl, ap, sym, ◌∙◌, append_assoc, All, arith}
 use Rattle.std.specs.Fmt.{decimal}
 use Rattle.std.specs.List.{list_all}
 use Rattle.std.specs.declared.result.Result.{Result}
@@ -12,17 +12,16 @@ use Rattle.irq_base.specs.declared.fault.LineCause.{LineCause}
 use Rattle.irq_base.specs.declared.fault.LineCause.TheVariants.{Char, End}
 use Rattle.irq_base.specs.declared.call.Caller.{Caller}
 use Rattle.irq_base.specs.declared.call.Caller.TheVariants.{Device, Cpu}
-use Rattle.irq_base.specs.declared.shape.Shape.{Shape}
 use Rattle.script_text.specs.declared.judging.Place.{Place}
 use Rattle.script_text.specs.declared.judging.Place.TheVariants.{Version, Cpus, Within, Over}
 use Rattle.script_text.specs.declared.task.ActorLine.{ActorLine}
 use Rattle.script_text.specs.Causes.{of_one}
 use Rattle.script_text.specs.Words.{is_empty, words_of, ended_lines, is_ended, front_parts, last_part}
-use Rattle.script_text.specs.Scripts.{Script, Standing, is_printable, is_passed_over, is_over, worded, judge, next_line, script_from, at_end, script_of, blank_script, actor_line, with_cpus, with_counters, with_tick, with_calls, with_publications, with_line}
-use Rattle.script_text.specs.Spelling.{task_words, actor_words, header_words, script_words, spaced, joined, with_feeds, text_of}
-use Rattle.script_text.specs.Fitting.{FitsCaller, IsLine, IsHeader, IsScript}
+use Rattle.script_text.specs.Scripts.{Script, Standing, is_printable, is_passed_over, is_over, worded, judge, next_line, script_from, script_of, blank_script, actor_line, with_cpus, with_counters, with_tick, with_calls, with_publications, with_line}
+use Rattle.script_text.specs.Spelling.{task_words, actor_words, spaced, joined, with_feeds, text_of}
+use Rattle.script_text.specs.Fitting.{FitsCaller, IsLine, IsScript}
 use Rattle.script_text.proofs.Again.{decimal-again}
-use Rattle.script_text.proofs.WordsAgain.{is_word, are_words, both-true, and-left, and-right, decimal-graphic, decimal-word, word-append}
+use Rattle.script_text.proofs.WordsAgain.{are_words, both-true, and-left, and-right, decimal-graphic, decimal-word, word-append}
 use Rattle.script_text.proofs.LineCuts.{some_part, front-more, last-more}
 use Rattle.script_text.proofs.LinesAgain.{judged, task-again, line-again}
 

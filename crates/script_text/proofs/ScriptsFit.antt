@@ -1,19 +1,20 @@
 -- What is read is a script of the grammar.
-use Rattle.std.proofs.Common.{◌≡◌, ℕ, ◌+◌, ◌<◌, ◌≤◌, Bool, true, false, not, ◌&&◌, nat_lt, ltb-true, List, [], ◌∷◌, ◌++◌, codes, Ok, Err, IfOk, if◌then◌else◌, refl, ap, sym, ◌∙◌, subst, arith, All}
+use Rattle.std.proofs.Common.{◌≡◌, ℕ, ◌+◌, ◌<◌, ◌≤◌, Bool, true, false, not, ◌&&◌, nat_lt, ltb-true, List, [], ◌∷◌, ◌++◌, codes, Ok, Err, IfOk, if◌then◌else◌, refl, sym, subst, arith, All}
 use Rattle.std.specs.List.{list_all, list_any}
 use Rattle.std.specs.declared.result.Result.{Result}
 use Rattle.std.proofs.lemmas.List.Elements.{All-append, All-cons, All-nil}
 use Rattle.irq_base.specs.declared.fault.LineCause.{LineCause}
-use Rattle.irq_base.specs.declared.fault.LineCause.TheVariants.{Char, End, Word, Count, Cut}
+use Rattle.irq_base.specs.declared.fault.LineCause.TheVariants.{Char, End, Word, Count}
 use Rattle.irq_base.specs.declared.shape.Shape.{Shape}
 use Rattle.script_text.specs.declared.judging.Place.{Place}
 use Rattle.script_text.specs.declared.judging.Place.TheVariants.{Version, Cpus, Within, Over}
 use Rattle.script_text.specs.declared.task.ActorLine.{ActorLine}
-use Rattle.script_text.specs.Causes.{of_one}
-use Rattle.script_text.specs.Words.{same_text, is_empty_word, words_of, ended_lines, is_ended, none, one}
+use Rattle.script_text.specs.Words.{same_text, is_empty_word, words_of, ended_lines, is_ended, none}
 use Rattle.script_text.specs.Numbers.{decimal_in}
 use Rattle.script_text.specs.Commands.{one_field}
-use Rattle.script_text.specs.Scripts.{Script, Standing, is_printable, is_passed_over, is_over, version, cpus, line_within, by_place, worded, judge, at_end, next_line, script_from, script_of, blank_script, actor_line, with_cpus, with_counters, with_tick, with_calls, with_publications, with_line}
+use Rattle.script_text.specs.Scripts.{Script, Standing, is_printable, is_passed_over, is_over, version, cpus, line_within, by_place, judge, at_end, next_line, script_from, script_of, blank_script, actor_line, with_cpus, with_counters, with_tick, with_calls, with_publications, with_line}
+use Rattle.script_text.specs.declared.draft.Draft.{Draft}
+use Rattle.script_text.specs.Draft.{script_in, IsIndexedDraft, IsKeptDraft}
 use Rattle.script_text.specs.Fitting.{IsLine, IsHeader, IsScript}
 use Rattle.script_text.proofs.WordsAgain.{and-left}
 use Rattle.script_text.proofs.FieldsFit.{if-either, one-fits, none-fits, of-one, decimal-fits}
@@ -138,3 +139,7 @@ script-fits bytes = lines-stand Version blank_script 1 (ended_lines bytes) (is_e
 
 pub script-of-grammar : (bytes : List ℕ) (s : Script) → script_of bytes ≡ Ok s → IsScript s
 script-of-grammar bytes s e = subst (λ (r : Result Script (ℕ × LineCause)). IfOk r IsScript) e (script-fits bytes)
+
+-- a draft of what is read
+pub kept : (bytes : List ℕ) (d : Draft) → script_of bytes ≡ Ok (script_in d) → IsIndexedDraft d → IsKeptDraft d
+kept bytes d read index = record { index = index; fits = script-of-grammar bytes (script_in d) read }

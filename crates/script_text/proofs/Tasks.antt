@@ -1,5 +1,5 @@
 -- The places of a seat lead to what its lines ask.
-use Rattle.std.proofs.Common.{◌≡◌, ℕ, suc, ◌+◌, ◌-◌, ◌<◌, ◌≤◌, Bool, true, false, cond, nat_eq, List, [], ◌∷◌, ◌++◌, length, map, filter, drop, drop-cons, get_or, slice_get, refl, ap, sym, ◌∙◌, append_assoc, add-one, length-drop, inl, inr, if◌then◌else◌, option_map, Some, None, All, subst, arith}
+use Rattle.std.proofs.Common.{◌≡◌, ℕ, ◌+◌, ◌<◌, ◌≤◌, Bool, true, false, cond, nat_eq, List, [], ◌∷◌, ◌++◌, length, map, filter, drop, drop-cons, slice_get, refl, ap, sym, ◌∙◌, append_assoc, add-one, length-drop, inl, inr, if◌then◌else◌, option_map, Some, None, arith}
 use Rattle.std.specs.declared.option.Option.{Option}
 use Rattle.std.proofs.lemmas.List.{length-map, nil_from_length}
 use Rattle.std.proofs.Math.Seq.{get_or-append_seam}
@@ -14,7 +14,7 @@ use Rattle.script_text.proofs.Indexes.{placed, places-first, places-none, same-s
 abbrev pub tasks_in : List ActorLine → List Task
 tasks_in lines = map (λ line. line.task) lines
 
-tasks-first : (who : Caller) (x : ActorLine) (lines : List ActorLine) →
+pub tasks-first : (who : Caller) (x : ActorLine) (lines : List ActorLine) →
     tasks_of who (x ∷ lines) ≡ (if same_caller x.caller who then x.task ∷ tasks_of who lines else tasks_of who lines)
 unfolding tasks_of
 tasks-first who x lines = go (same_caller x.caller who) (filter (λ line. same_caller line.caller who) lines)
@@ -23,7 +23,7 @@ tasks-first who x lines = go (same_caller x.caller who) (filter (λ line. same_c
     go true ls = refl
     go false ls = refl
 
-tasks-none : (who : Caller) → tasks_of who [] ≡ []
+pub tasks-none : (who : Caller) → tasks_of who [] ≡ []
 unfolding tasks_of
 tasks-none who = refl
 

@@ -1,9 +1,8 @@
 -- Words with one space between them are a line that is cut into these words.
-use Rattle.std.proofs.Common.{◌≡◌, ℕ, zero, suc, max, ◌+◌, ◌*◌, ◌/◌, ◌%◌, ◌^◌, ◌<◌, ◌≤◌, Bool, true, false, not, nat_eq, nat_lt, nat_le, ◌&&◌, ◌||◌, List, [], ◌∷◌, ◌++◌, length, codes, Ok, Err, if◌then◌else◌, refl, ap, sym, ◌∙◌, subst, All, arith}
+use Rattle.std.proofs.Common.{◌≡◌, ℕ, zero, suc, max, ◌*◌, ◌/◌, ◌%◌, ◌^◌, ◌<◌, ◌≤◌, Bool, true, false, not, nat_eq, nat_le, ◌&&◌, ◌||◌, List, [], ◌∷◌, ◌++◌, length, refl, ap, ◌∙◌, All, arith}
 use Rattle.std.specs.Fmt.{decimal}
-use Rattle.std.specs.Char.{digit_value}
 use Rattle.std.specs.Str.Parse.{AllDigits}
-use Rattle.std.specs.List.{slice_split, list_all, list_any}
+use Rattle.std.specs.List.{list_all, list_any}
 use Rattle.std.proofs.lemmas.Bool.Decides.{nat_tests}
 use Rattle.std.proofs.lemmas.List.{append-nil}
 use Rattle.std.proofs.lemmas.List.Elements.{All-cons, All-nil}
@@ -14,7 +13,7 @@ use Rattle.std.proofs.lemmas.Fmt.{decimal_is_IsNumeral, decimal_nonempty}
 use Rattle.script_text.specs.Words.{is_empty_word, words_of}
 use Rattle.script_text.specs.Numbers.{hex_digit, hex_digits, hex_places, hex_text}
 use Rattle.script_text.specs.Scripts.{is_printable}
-use Rattle.script_text.specs.Spelling.{spaced, joined}
+use Rattle.script_text.specs.Spelling.{spaced}
 use Rattle.script_text.proofs.Again.{digits-suc, digits-zero, length-digits}
 
 -- a byte of a word: printable, and no space

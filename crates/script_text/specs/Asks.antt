@@ -1,5 +1,5 @@
 -- What an actor of a script asks, by the replies that it gets.
-use Rattle.std.specs.Prelude.{◌≡◌, ℕ, zero, suc, ◌+◌, ◌-◌, Bool, false, not, nat_eq, List, [], ◌∷◌, map, filter, fold, drop, slice_index_or, Some, None}
+use Rattle.std.specs.Prelude.{◌≡◌, ℕ, zero, suc, ◌-◌, Bool, false, not, nat_eq, List, [], ◌∷◌, map, filter, fold, drop, slice_index_or, Some, None}
 use Rattle.std.specs.declared.option.Option.{Option}
 use Rattle.irq_base.specs.declared.call.Call.{Call}
 use Rattle.irq_base.specs.declared.call.Call.TheVariants.{PortOut, Ack, Eoi}
@@ -58,6 +58,12 @@ abbrev pub after_ack : Reply → Asks → Asks
 after_ack (Vector v) rest = once Eoi rest
 after_ack (Extint v) rest = to_slave rest
 after_ack _ rest = rest
+
+-- where a round goes on after the reply to its Ack; None where it is over
+abbrev pub phase_after : Reply → Option Phase
+phase_after (Vector v) = Some End
+phase_after (Extint v) = Some Slave
+phase_after _ = None
 
 -- `serve`: N rounds, each of which is Ack and what goes on
 unfoldable pub rounds : ℕ → Asks → Asks

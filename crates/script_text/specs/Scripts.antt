@@ -1,9 +1,8 @@
 -- The grammar of scripts: header lines, actor lines, and the first bad line with its cause.
-use Rattle.std.specs.Prelude.{◌≡◌, ℕ, ◌+◌, Bool, true, false, not, ◌&&◌, ◌||◌, nat_eq, nat_lt, nat_le, List, [], ◌∷◌, ◌++◌, take, drop, length, slice_index, codes, Ok, Err, if◌then◌else◌}
+use Rattle.std.specs.Prelude.{ℕ, ◌+◌, Bool, true, false, not, ◌&&◌, ◌||◌, nat_eq, nat_lt, nat_le, List, [], ◌∷◌, ◌++◌, take, drop, length, slice_index, codes, Ok, Err, if◌then◌else◌}
 use Rattle.std.specs.List.{list_all, list_any}
 use Rattle.std.specs.declared.result.Result.{Result}
 use Rattle.irq_base.specs.Callers.{is_allowed}
-use Rattle.irq_base.specs.declared.call.Call.{Call}
 use Rattle.irq_base.specs.declared.call.Call.TheVariants.{Ack}
 use Rattle.irq_base.specs.declared.call.Caller.{Caller}
 use Rattle.irq_base.specs.declared.call.Caller.TheVariants.{Device, Cpu}
@@ -16,7 +15,7 @@ use Rattle.script_text.specs.declared.task.ActorLine.{ActorLine}
 use Rattle.script_text.specs.declared.judging.Place.{Place}
 use Rattle.script_text.specs.declared.judging.Place.TheVariants.{Version, Cpus, Within, Over}
 use Rattle.script_text.specs.Causes.{both, of_one, of_two}
-use Rattle.script_text.specs.Words.{same_text, is_empty_word, ended_lines, is_ended, words_of, none, one}
+use Rattle.script_text.specs.Words.{same_text, is_empty_word, ended_lines, is_ended, words_of, none}
 use Rattle.script_text.specs.Numbers.{decimal_in, number16}
 use Rattle.script_text.specs.Commands.{command, one_field}
 

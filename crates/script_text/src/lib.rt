@@ -18,7 +18,6 @@ mod task;
 mod words;
 
 pub use causes::LineFault;
-pub use commands::command;
 pub use laws::{scripts_fit, texts_are_read};
 pub use progress::{Phase, Progress};
 pub use script::{Script, ScriptFault, parse};

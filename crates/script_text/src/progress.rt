@@ -1,12 +1,15 @@
 //! What an actor asks next.
-ghost use Rattle.std.specs.Prelude.{◌≡◌, ◌+◌, ◌<◌, ◌++◌, ◌∷◌, [], nat_lt, if◌then◌else◌, length, List, Some, None};
+ghost use Rattle.std.specs.Prelude.{◌≡◌, ◌+◌, ◌<◌, ◌≤◌, ◌++◌, ◌∷◌, [], true, nat_lt, if◌then◌else◌, length, List, Some, None};
 ghost use Rattle.irq_base.specs.declared.call.Caller.{Caller};
 ghost use Rattle.irq_base.specs.declared.call.Call.TheVariants.{Ack, Eoi, PortOut};
 ghost use Rattle.irq_base.specs.declared.reply.Reply.{Reply};
+ghost use Rattle.irq_base.specs.declared.shape.Shape.{Shape};
+ghost use Rattle.irq_base.specs.Callers.{is_allowed};
 ghost use Rattle.script_text.specs.declared.progress.Phase.TheVariants.{Round};
 ghost use Rattle.script_text.specs.declared.task.ActorLine.{ActorLine};
-ghost use Rattle.script_text.specs.Asks.{Asks, next_call, answered, rest_of_line, goes_on, left_at, tasks_of, actors_of, caller_at, HasFollowed};
+ghost use Rattle.script_text.specs.Asks.{Asks, next_call, answered, phase_after, rest_of_line, goes_on, left_at, tasks_of, actors_of, caller_at, HasFollowed};
 ghost use Rattle.script_text.specs.Index.{IsCounted};
+ghost use Rattle.script_text.specs.Scripts.{may_ask};
 
 use crate::script::Script;
 use crate::task::Task;
@@ -66,10 +69,10 @@ impl Served {
 }
 
 // What a line asks next.
-
 pub fn asked<'a>(served: &'a Served, task: &'a Task, done: u32, phase: Phase) -> &'a Call
     requires { IsCounted task.now }
-    ensures { (rest : Asks) → next_call (rest_of_line task.now done phase rest) ≡ Some result.now }
+    ensures next { (rest : Asks) → next_call (rest_of_line task.now done phase rest) ≡ Some result.now }
+    ensures allowed { (who : Caller) (shape : Shape) → may_ask shape who task.now ≡ true → is_allowed who result.now shape ≡ true }
 {
     match task {
         Task::Once(call) => call,
@@ -94,8 +97,18 @@ fn once_more(done: u32, count: u32) -> Option<(u32, Phase)>
     }
 }
 
-// Where a line stands after a reply, if it is not done.
+// Where a round goes on after the reply to its acknowledge; `None` where it is over.
+fn phase_after(reply: &Reply) -> Option<Phase>
+    ensures { result ≡ phase_after reply.now }
+{
+    match reply {
+        Reply::Vector(_) => Some(Phase::End),
+        Reply::Extint(_) => Some(Phase::Slave),
+        _ => None,
+    }
+}
 
+// Where a line stands after a reply, if it is not done.
 fn replied(task: &Task, done: u32, phase: Phase, reply: &Reply) -> Option<(u32, Phase)>
     requires { IsCounted task.now }
     ensures { (rest : Asks) → goes_on task.now rest result ≡ answered (rest_of_line task.now done phase rest) reply.now }
@@ -104,10 +117,9 @@ fn replied(task: &Task, done: u32, phase: Phase, reply: &Reply) -> Option<(u32, 
         Task::Once(_) => None,
         Task::Repeat(count, _) => once_more(done, *count),
         Task::Serve(count) => match phase {
-            Phase::Round => match reply {
-                Reply::Vector(_) => Some((done, Phase::End)),
-                Reply::Extint(_) => Some((done, Phase::Slave)),
-                _ => once_more(done, *count),
+            Phase::Round => match phase_after(reply) {
+                Some(next) => Some((done, next)),
+                None => once_more(done, *count),
             },
             Phase::Slave => Some((done, Phase::Master)),
             Phase::End => once_more(done, *count),
@@ -128,8 +140,8 @@ impl Progress {
         }
     }
 
-    /// Follows a reply to the call that this actor of the script asked next. Where there was none, it stays.
-    pub fn after(&mut self, script: &Script, actor: usize, reply: &Reply)
+    // Follows a reply to the call that this actor asked next. Where there was none, it stays.
+    fn follow(&mut self, script: &Script, actor: usize, reply: &Reply)
         requires { actor < length (actors_of script.now.lines) }
         ensures left { let tasks = tasks_of (caller_at script.now.lines actor) script.now.lines in
             left_at tasks self.new ≡ answered (left_at tasks self.old) reply.now }
@@ -149,6 +161,22 @@ impl Progress {
                     self.phase = phase;
                 }
             }
+        }
+    }
+
+    /// Follows a reply to the call that this actor of the script asked next. Where there was none, or no such actor, it stays.
+    pub fn after(&mut self, script: &Script, actor: usize, reply: &Reply)
+        ensures left { let tasks = tasks_of (caller_at script.now.lines actor) script.now.lines in
+            actor < length (actors_of script.now.lines)
+            → left_at tasks self.new ≡ answered (left_at tasks self.old) reply.now }
+        ensures followed { let who = caller_at script.now.lines actor in
+            (replies : List Reply) → actor < length (actors_of script.now.lines)
+            → HasFollowed who script.now.lines replies self.old
+            → HasFollowed who script.now.lines (replies ++ reply.now ∷ []) self.new }
+        ensures stays { length (actors_of script.now.lines) ≤ actor → self.new ≡ self.old }
+    {
+        if actor < script.actors() {
+            self.follow(script, actor, reply);
         }
     }
 }

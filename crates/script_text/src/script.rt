@@ -1,12 +1,13 @@
 //! A script, whole.
-ghost use Rattle.std.specs.Prelude.{◌≡◌, ◌+◌, ◌-◌, ◌<◌, ◌^◌, List, [], ◌∷◌, drop, length, option_copied, IfOk, IfSome, MatchOption, slice_get, Some, None};
-ghost use Rattle.script_text.specs.Scripts.{script_of, at_end};
+ghost use Rattle.std.specs.Prelude.{◌≡◌, ◌+◌, ◌-◌, ◌<◌, ◌^◌, true, List, [], ◌∷◌, drop, length, option_copied, IfOk, IfSome, MatchOption, slice_get, Some, None};
+ghost use Rattle.irq_base.specs.Callers.{is_allowed};
+ghost use Rattle.script_text.specs.Scripts.{script_of, at_end, may_ask};
 ghost use Rattle.script_text.specs.Asks.{actors_of, caller_at, tasks_of, next_call, left_at, next_ask, HasFollowed};
 ghost use Rattle.script_text.specs.Draft.{script_in, IsIndexedDraft};
 ghost use Rattle.script_text.specs.Index.{IsCounted};
 ghost use Rattle.script_text.specs.Faults.{Tells};
 ghost use Rattle.script_text.specs.Answers.{Reads};
-ghost use Rattle.script_text.specs.Fitting.{IsScript};
+ghost use Rattle.script_text.specs.Fitting.{IsScript, IsHeader};
 ghost use Rattle.irq_base.specs.declared.reply.Reply.{Reply};
 
 use crate::causes::LineFault;
@@ -36,13 +37,13 @@ pub struct Script {
 
 impl Model for Script {
     ghost use Rattle.script_text.specs.Scripts.{Script as Lines};
-    ghost use Rattle.script_text.specs.Draft.{script_in, IsIndexedDraft};
+    ghost use Rattle.script_text.specs.Draft.{script_in, IsKeptDraft};
 
     ghost Value = { Lines };
 
     ghost view = { λ a. script_in a.draft };
 
-    ghost invariant = { λ a. IsIndexedDraft a.draft };
+    ghost invariant = { λ a. IsKeptDraft a.draft };
 }
 
 // The place behind the lines, where the text ends.
@@ -111,7 +112,8 @@ pub fn parse(alloc: Global, bytes: &[u8]) -> Result<Script, ScriptFault>
 impl Script {
     /// The board that the script wants.
     pub fn shape(&self) -> Shape
-        ensures { result ≡ self.now.shape }
+        ensures value { result ≡ self.now.shape }
+        ensures ranges { IsHeader result }
     {
         self.draft.shape
     }
@@ -153,11 +155,14 @@ impl Script {
             MatchOption result (drop k tasks ≡ []) (λ t. drop k tasks ≡ t.now ∷ drop (k + 1) tasks) }
         ensures counted { IfSome result (λ t. IsCounted t.now) }
         ensures below { IfSome result (λ _. k + 1 < 2 ^ 64) }
+        ensures may { let who = caller_at self.now.lines actor in
+            IfSome result (λ t. may_ask self.now.shape who t.now ≡ true) }
     {
         self.draft.task(self.caller_of(actor), k)
     }
 
-    /// What an actor asks next, where the progress followed its replies; `None` where it asks nothing more.
+    /// What an actor asks next, where the progress followed its replies; `None` where it asks nothing more. The actor is there on
+    /// the board that the script wants, and may ask it.
     pub fn next<'a>(&'a self, actor: usize, progress: &Progress) -> Option<&'a Call>
         requires { actor < length (actors_of self.now.lines) }
         ensures left { let tasks = tasks_of (caller_at self.now.lines actor) self.now.lines in
@@ -165,6 +170,8 @@ impl Script {
         ensures followed { let who = caller_at self.now.lines actor in
             (replies : List Reply) → HasFollowed who self.now.lines replies progress.now
             → option_copied result ≡ next_ask who self.now.lines replies }
+        ensures allowed { let who = caller_at self.now.lines actor in
+            IfSome result (λ call. is_allowed who call.now self.now.shape ≡ true) }
     {
         match self.task(actor, progress.line) {
             None => None,

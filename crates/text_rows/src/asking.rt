@@ -51,12 +51,6 @@ fn asked(
     Ok(text)
 }
 
-fn follow(script: &Script, actor: usize, progress: &mut Progress, reply: &Reply) {
-    if actor < script.actors() {
-        progress.after(script, actor, reply);
-    }
-}
-
 #[test]
 fn actors_ask_by_their_replies(rt: HostRuntime) -> Result<(), Fail> {
     let script = script(rt.alloc(), SCRIPT)?;
@@ -68,7 +62,7 @@ fn actors_ask_by_their_replies(rt: HostRuntime) -> Result<(), Fail> {
                 asked(rt.alloc(), &script, actor, &progress[actor])?.as_str(),
                 words
             );
-            follow(&script, actor, &mut progress[actor], &reply);
+            progress[actor].after(&script, actor, &reply);
         }
     }
     assert_eq!(rt; asked(rt.alloc(), &script, 0, &progress[0])?.as_str(), "");
@@ -109,5 +103,22 @@ fn a_command_is_repeated_a_million_times(rt: HostRuntime) -> Result<(), Fail> {
         "irqboard 1\ncpus 1\ncpu0 repeat 1000000 ack\nend\n",
     )?;
     assert_eq!(rt; count_asked(&script, 2_000_000), Some(1_000_000));
+    Ok(())
+}
+
+#[test]
+fn rounds_are_served_a_million_times(rt: HostRuntime) -> Result<(), Fail> {
+    let script = script(rt.alloc(), "irqboard 1\ncpus 1\ncpu0 serve 1000000\nend\n")?;
+    assert_eq!(rt; count_asked(&script, 2_000_000), Some(1_000_000));
+    Ok(())
+}
+
+#[test]
+fn an_actor_that_is_none_moves_no_progress(rt: HostRuntime) -> Result<(), Fail> {
+    let script = script(rt.alloc(), SCRIPT)?;
+    let mut progress = Progress::start();
+    progress.after(&script, 3, &Reply::Done);
+    progress.after(&script, usize::MAX, &Reply::Vector(0x41));
+    assert_eq!(rt; progress, Progress::start());
     Ok(())
 }

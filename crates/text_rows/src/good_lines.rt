@@ -133,6 +133,63 @@ fn headers_that_are_left_out_have_their_defaults(rt: HostRuntime) -> Result<(), 
     Ok(())
 }
 
+#[test]
+fn headers_have_their_least_and_greatest_numbers(rt: HostRuntime) -> Result<(), Fail> {
+    let least = script(
+        rt.alloc(),
+        b"irqboard 1\ncpus 1\ncounters 0\ntick 0\ncalls 1\nend\n",
+    )?;
+    let shape = Shape {
+        cpus: 1,
+        counters: 0,
+        tick: 0,
+        calls: 1,
+        publications: 1_048_576,
+    };
+    assert_eq!(rt; least.shape(), shape);
+    let greatest = script(
+        rt.alloc(),
+        b"irqboard 1\ncpus 64\ncounters 256\ntick 4095\ncalls 4000000\npublications 1048576\nend\n",
+    )?;
+    let shape = Shape {
+        cpus: 64,
+        counters: 256,
+        tick: 4095,
+        calls: 4_000_000,
+        publications: 1_048_576,
+    };
+    assert_eq!(rt; greatest.shape(), shape);
+    Ok(())
+}
+
+// How often the only line of a script of one processor asks its call, or how many rounds it has.
+fn times(alloc: Global, line: &[u8]) -> Result<Option<u32>, Fail> {
+    let mut text = b"irqboard 1\ncpus 1\n".to_vec(alloc)?;
+    text.extend_from_slice(line)?;
+    text.extend_from_slice(b"\nend\n")?;
+    let script = script(alloc, text.as_slice())?;
+    if script.lines() != 1 {
+        return Err(Fail::from("not one line"));
+    }
+    match &script.line(0).task {
+        Task::Once(_) => Ok(None),
+        Task::Repeat(count, _) => Ok(Some(*count)),
+        Task::Serve(count) => Ok(Some(*count)),
+    }
+}
+
+#[test]
+fn repetitions_and_rounds_have_their_least_and_greatest_numbers(
+    rt: HostRuntime,
+) -> Result<(), Fail> {
+    let alloc = rt.alloc();
+    assert_eq!(rt; times(alloc, b"cpu0 serve 1")?, Some(1));
+    assert_eq!(rt; times(alloc, b"cpu0 serve 1000000")?, Some(1_000_000));
+    assert_eq!(rt; times(alloc, b"cpu0 repeat 1 ack")?, Some(1));
+    assert_eq!(rt; times(alloc, b"cpu0 repeat 1000000 ack")?, Some(1_000_000));
+    Ok(())
+}
+
 fn rows_text(alloc: Global, count: u32) -> Result<String, Fail> {
     let mut text = String::from_str(alloc, "irqboard 1\ncpus 1\ndev0 reroute")?;
     for k in 0..count {

@@ -43,6 +43,7 @@ module _ {S E P : Type 0} (m : Workings S E P) (opening : S) (size : ℕ) (bound
     closes_right ws xs words count homes = record {
       history = k.behind.history;
       now = k.behind.now;
+      opened = known.opened;
       begins = k.begins;
       legal = k.legal;
       parts_left = same_lists (m.parts k.behind.now) xs (sym k.deep ∙ count) (λ p x e. homes p x (k.at_home p x (turn_zero p (get_within (m.parts k.behind.now) p x e)) e));

@@ -1,11 +1,12 @@
 -- What a pen says of its slots stays when parts are taken, given and committed
-use Rattle.std.proofs.Common.{◌≡◌, ◌≢◌, ℕ, List, [], ◌∷◌, true, false, refl, sym, ap, ◌∙◌, subst, arith}
+use Rattle.std.proofs.Common.{◌≡◌, ◌≢◌, ℕ, List, [], ◌∷◌, Bool, true, false, refl, sym, ap, ◌∙◌, subst, arith}
 use Rattle.std.specs.Prelude.{Some, None, nat_eq, nat_lt, is_some, if◌then◌else◌}
 use Rattle.atomic_table.specs.Table.{rest}
 use Rattle.turn_book.specs.declared.view.Held.{Held}
 use Rattle.turn_book.specs.Hands.{held_at, held_without, slot_at, are_distinct, brought, ArePaired, AreBelow}
 use Rattle.turn_book.specs.Lent.{slot_here, rest-brought}
 use Rattle.turn_book.specs.declared.view.View.{View}
+use Rattle.turn_book.specs.Histories.{is_in}
 use Rattle.turn_book.specs.Views.{given_view, KnowsOnly}
 use Rattle.turn_book.proofs.Lists.{not_both, has, none_not}
 use Rattle.turn_book.proofs.Holding.{held-else, held-gone}
@@ -27,6 +28,25 @@ module _ {P : Type 0} where
     | true ↦ λ t. (let same : p ≡ q = grind arith in subst (λ r. is_some (held_at r (held_without p hs)) ≡ false) same (ap is_some (held-gone p hs)))
     | false ↦ λ t. (let other : p ≢ q = λ e. (let no_way : ⊥ = grind arith in no_way) in ap is_some (held-else p q other hs) ∙ f q t)
   ] refl)
+
+  -- a list without a part that it does not have
+  without_none : (p : ℕ) (hs : List (Held P)) → is_some (held_at p hs) ≡ false → held_without p hs ≡ hs
+  without_none p [] h = refl
+  without_none p (k ∷ hs) h = by_test (without_none p hs) (nat_eq k.part p) h
+    where
+      by_test : (is_some (held_at p hs) ≡ false → held_without p hs ≡ hs) → (b : Bool) → is_some (elim b [ true ↦ Some k.value | false ↦ held_at p hs ]) ≡ false
+          → elim b [ true ↦ held_without p hs | false ↦ k ∷ held_without p hs ] ≡ k ∷ hs
+      by_test again true e = absurd (let q : true ≡ false = e in cc)
+      by_test again false e = ap (λ l. k ∷ l) (again e)
+
+  -- a part that was taken and given: what is held is what was held
+  pub given_back : (p : ℕ) (hs ws : List (Held P)) → is_some (held_at p hs) ≡ false → is_some (held_at p ws) ≡ true
+      → ((x : P) → held_at p ws ≡ Some x → ws ≡ record { part = p; value = x } ∷ hs) → held_without p ws ≡ hs
+  given_back p hs ws free held took =
+      let (x, is) = has (held_at p ws) held in
+      let t : nat_eq p p ≡ true = grind arith in
+      let here : Held P = record { part = p; value = x } in
+      ap (held_without p) (took x is) ∙ ap (λ b. elim b [ true ↦ held_without p hs | false ↦ here ∷ held_without p hs ]) t ∙ without_none p hs free
 
   -- a part that is held is in hand
   pub in_hand : (hs : List (Held P)) (cs : List (ℕ × P)) (p : ℕ) → ArePaired hs cs → is_some (held_at p hs) ≡ true → (x : P) × (slot_at p cs ≡ Some x)
@@ -57,3 +77,7 @@ module _ {P : Type 0} where
 -- what is known of the generation, after a part was given
 pub given_knows : {S E P : Type 0} (p : ℕ) (v : View S E P) (g : ℕ) → KnowsOnly g v → KnowsOnly g (given_view p v)
 given_knows p v g only h = elim (nat_eq p 0) as (λ b. (if b then None else v.knows) ≡ Some h → h ≡ g) [ true ↦ λ e. absurd (none_not h e) | false ↦ λ e. only h e ]
+
+-- a list has its first number
+pub is_in_first : (p : ℕ) (ps : List ℕ) → is_in p (p ∷ ps) ≡ true
+is_in_first p ps = let t : nat_eq p p ≡ true = grind arith in ap (λ b. elim b [ true ↦ true | false ↦ is_in p ps ]) t

@@ -46,6 +46,9 @@ impl<M: Machine> TurnBook<M> {
         ensures one { IfErr result (λ p. is_in p parts.now ≡ true) }
         ensures until { IfErr result (λ p. (view_of pen.new.seat).took ≡ (view_of pen.old.seat).took ++ up_to p parts.now) }
         ensures same { IfErr result (λ p. (q : ℕ) → is_some (held_at q (view_of pen.new.seat).held) ≡ is_some (held_at q (view_of pen.old.seat).held)) }
+        ensures others { IfOk result (λ done. (q : ℕ) → is_in q parts.now ≡ false → held_at q (view_of pen.new.seat).held ≡ held_at q (view_of pen.old.seat).held) }
+        ensures unknown { IfErr result (λ p. is_in 0 parts.now ≡ false → SameWords (view_of pen.old.seat) (view_of pen.new.seat)) }
+        ensures back { IfErr result (λ p. (view_of pen.new.seat).held ≡ (view_of pen.old.seat).held) }
         ensures notes { (view_of pen.new.seat).notes ≡ (view_of pen.old.seat).notes }
         ensures list { SameList (view_of pen.old.seat) (view_of pen.new.seat) }
         ensures place { SamePlace (view_of pen.old.seat) (view_of pen.new.seat) }

@@ -123,6 +123,7 @@ impl<M: Machine> TurnBook<M> {
         requires drafted { publish ≡ true → IfSome N.entry (λ e. HasDrafted M.steps M.published had (view_of pen.old.seat) e) }
         ensures book { pen.new.seat.table_id ≡ pen.old.seat.table_id }
         ensures at { IfOk result (λ at. (at ≡ had.length) × (at ≡ length (view_of pen.old.seat).seen)) }
+        ensures counted { IfOk result (λ at. had.generation ≡ count_by M.is_publication (view_of pen.old.seat).seen) }
         ensures entered { IfOk result (λ at. IfSome N.entry (λ e. (view_of pen.new.seat).seen ≡ (view_of pen.old.seat).seen ++ e ∷ [])) }
         ensures follows { IfOk result (λ at. IfSome N.entry (λ e. (s t : M.State) → (view_of pen.old.seat).now ≡ Some s → (view_of pen.new.seat).now ≡ Some t → M.steps s e t)) }
         ensures kept { IfOk result (λ at. (view_of pen.new.seat).misses ≡ (view_of pen.old.seat).misses) }

@@ -1,6 +1,4 @@
-use Rattle.std.proofs.Common.{sym}
-use Rattle.script_text.specs.Index.{IsIndexed}
-use Rattle.script_text.proofs.Indexes.{indexed-none, indexed-is}
+use Rattle.script_text.proofs.Indexes.{indexed-is}
 use Rattle.script_text.proofs.draft.blank.Goals as goal
 
 pub returns-clause-index : goal.returns-clause-index

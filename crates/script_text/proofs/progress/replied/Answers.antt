@@ -1,7 +1,7 @@
-use Rattle.std.proofs.Common.{◌≡◌, suc, ◌-◌, ap, ◌∙◌}
+use Rattle.std.proofs.Common.{suc, ap}
 use Rattle.script_text.specs.declared.task.Task.TheVariants.{Serve}
-use Rattle.script_text.specs.Asks.{answered, rest_of_line, rounds}
-use Rattle.script_text.proofs.Asked.{repeat-goes, round-goes, other-reply}
+use Rattle.script_text.specs.Asks.{answered, rest_of_line}
+use Rattle.script_text.proofs.Asked.{repeat-goes, round-goes, round-over, round-on}
 use Rattle.script_text.proofs.progress.replied.Goals as goal
 
 pub returns-in-Repeat : goal.returns-in-Repeat
@@ -18,10 +18,12 @@ returns-in-Master c = λ rest.
     round-goes c.args.task.now c.in-Serve.count c.args.done c.args.phase c.args.reply.now c.once_more-in-Master.result rest c.in-Serve.is c.requires
     (λ m. ap (λ p. answered (rest_of_line (Serve (suc m)) c.args.done p rest) c.args.reply.now) c.in-Master.is) c.once_more-in-Master.ensures
 
-pub returns-in_default : goal.returns-in_default
-returns-in_default c = λ rest.
-    let d = c.args.done in
-    let reply = c.args.reply.now in
-    round-goes c.args.task.now c.in-Serve.count d c.args.phase reply c.once_more-in_default.result rest c.in-Serve.is c.requires
-    (λ m. ap (λ p. answered (rest_of_line (Serve (suc m)) d p rest) reply) c.in-Round.is
-    ∙ other-reply reply (rounds (m - d) rest) c.in_default.not-Vector c.in_default.not-Extint) c.once_more-in_default.ensures
+pub returns-in-None : goal.returns-in-None
+returns-in-None c = λ rest.
+    round-goes c.args.task.now c.in-Serve.count c.args.done c.args.phase c.args.reply.now c.once_more-in-None.result rest c.in-Serve.is c.requires
+    (λ m. round-over m c.args.done rest c.args.reply.now c.args.phase c.phase_after.result c.in-Round.is c.phase_after.ensures c.in-None.is) c.once_more-in-None.ensures
+
+pub returns-in-Some : goal.returns-in-Some
+returns-in-Some c = λ rest.
+    round-on c.args.task.now c.in-Serve.count c.args.done c.args.phase c.in-Some.next c.args.reply.now c.phase_after.result rest c.in-Serve.is c.requires
+    c.in-Round.is c.phase_after.ensures c.in-Some.is

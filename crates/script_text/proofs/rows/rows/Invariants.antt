@@ -1,4 +1,4 @@
-use Rattle.std.proofs.Common.{◌≡◌, ◌++◌, length, Ok}
+use Rattle.std.proofs.Common.{◌≡◌, ◌++◌, length}
 use Rattle.script_text.specs.Causes.{of_one}
 use Rattle.script_text.specs.Words.{more_words}
 use Rattle.script_text.specs.Commands.{rows}

@@ -1,4 +1,4 @@
-use Rattle.std.proofs.Common.{◌≡◌, ◌++◌, [], ◌∷◌, if◌then◌else◌, ap, sym, length, ◌∙◌}
+use Rattle.std.proofs.Common.{◌++◌, [], ◌∷◌, if◌then◌else◌, ap, length, ◌∙◌}
 use Rattle.script_text.specs.Words.{is_empty}
 use Rattle.script_text.specs.Index.{places_in, with_place}
 use Rattle.script_text.proofs.Indexes.{indexed-push}

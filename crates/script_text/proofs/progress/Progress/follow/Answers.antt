@@ -2,7 +2,7 @@ use Rattle.std.proofs.Common.{◌+◌}
 use Rattle.script_text.specs.declared.progress.Phase.TheVariants.{Round}
 use Rattle.script_text.specs.Asks.{tasks_of, caller_at, unrolled, left_at}
 use Rattle.script_text.proofs.Asked.{line-over, one-followed}
-use Rattle.script_text.proofs.progress.Progress.after.Goals as goal
+use Rattle.script_text.proofs.progress.Progress.follow.Goals as goal
 
 pub returns-in-None-clause-left : goal.returns-in-None-clause-left
 returns-in-None-clause-left c =
