@@ -82,7 +82,14 @@ fn store<R: Rig>(
     ensures noted { R.noted rig.new ≡ R.noted rig.old }
 {
     if is_ioapic_address(address) {
-        ioapic_store(rig, shape, (address - 0xfec0_0000) as u8, len, value, events)
+        ioapic_store(
+            rig,
+            shape,
+            (address - 0xfec0_0000) as u8,
+            len,
+            value,
+            events,
+        )
     } else if is_lapic_address(address) {
         let offset = (address - 0xfee0_0000) as u16;
         lapic_store(rig, shape, n, offset, len, value, events)

@@ -1,7 +1,8 @@
 //! Tables of calls on a board, each with the reply and the events that it is to have.
 use board_step::Board;
-use irq_base::{Call, Caller, Cause, Event, Events, NoMemory, Pin, Refusal, Reply, Row, Rows};
-use irq_base::{Shape, Status};
+use irq_base::{
+    Call, Caller, Cause, Event, Events, NoMemory, Pin, Refusal, Reply, Row, Rows, Shape, Status,
+};
 use irq_bits::CpuSet;
 use std::alloc::Global;
 

@@ -19,9 +19,9 @@ ghost use Rattle.board_step.specs.Step.{spent_of};
 ghost use Rattle.board_step.specs.Whole.{IsWhole, board_of};
 
 use crate::due::{Due, due_in_hand};
+use crate::limits::{barred_by, would_publish_in};
 use crate::open::OpenError;
 use crate::opening::{is_in_limits, rig};
-use crate::limits::{barred_by, would_publish_in};
 use crate::reach_calls::reach_in_hand;
 use crate::step::step_on;
 use crate::typed::calls_are_typed;
@@ -119,12 +119,7 @@ impl Board {
     ///
     /// `Spent` names the limit that bars the call: that of calls, or, where the call would be a publication, that of
     /// publications. Then nothing changes, and no event is told. It takes no memory.
-    pub fn apply(
-        &mut self,
-        caller: Caller,
-        call: &Call,
-        events: &mut Events,
-    ) -> Result<Done, Spent>
+    pub fn apply(&mut self, caller: Caller, call: &Call, events: &mut Events) -> Result<Done, Spent>
         requires { is_allowed caller call.now self.old.shape ≡ true }
         ensures spent { MatchResult result (λ _. spent_of self.old call.now ≡ None) (λ spent. spent_of self.old call.now ≡ Some spent) }
         ensures applied { IfOk result (λ done. Applied self.old caller call.now done events.old.items events.new.items self.new) }

@@ -31,7 +31,9 @@ fn would_publish(registry: &RegistryPart, shape: &Shape, call: &Call) -> bool
     match call {
         Call::Reroute { .. } => is_in_range(shape, call),
         Call::Assign {
-            trigger, resample, ..
+            trigger,
+            resample,
+            ..
         } => is_in_range(shape, call) && assign_refusal(registry, *trigger, *resample).is_none(),
         Call::Deassign { trigger, gsi } => {
             is_in_range(shape, call) && has_irqfd(registry, *trigger, *gsi)

@@ -9,11 +9,11 @@ ghost use Rattle.board_step.specs.Reach.{of_pair, of_written, of_effect, of_rung
 ghost use Rattle.board_step.specs.ReachNow.{of_acknowledges_now};
 ghost use Rattle.board_step.specs.Seen.{routing_seen, SeenFits, of_port_out, of_port_in, row, acks_row, pair_seen, lapic_seen, written_row, rung_row};
 
-use board_calls::{is_ioapic_address, is_lapic_address, is_port};
 use crate::reach_acks::{chip, of_end, of_pic_pin, of_resend, pair};
 use crate::reach_registrations::of_counter;
 use crate::reach_signals::{is_ioapic, is_lapic, is_pic, is_registry, of_message};
 use crate::seen::Seen;
+use board_calls::{is_ioapic_address, is_lapic_address, is_port};
 use board_raise::IoPart;
 use irq_base::{Message, Part, Space};
 use lapic::{Effect, Lapic};

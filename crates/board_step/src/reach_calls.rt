@@ -14,7 +14,6 @@ ghost use Rattle.board_step.specs.ReachNow.{reach_now};
 ghost use Rattle.board_calls.specs.Refusals.{range_reasons};
 ghost use Rattle.board_step.specs.Seen.{board_seen, SeenFits, PartsFit, of_pair_given, row, lapic_seen};
 
-use board_calls::{hears_pair, refused_by_range};
 use crate::reach_accesses::{of_load, of_port_in, of_port_out, of_store, own_lapic};
 use crate::reach_acks::{of_cycle, of_end, pair};
 use crate::reach_registrations::{does_inject, does_release, of_write};
@@ -24,6 +23,7 @@ use crate::reach_signals::{
 };
 use crate::seen::Seen;
 use crate::step::number_of;
+use board_calls::{hears_pair, refused_by_range};
 use board_raise::Parts;
 use irq_base::{Call, Caller, MsiWord, Part, Shape};
 use tick_reinject::TickState;
@@ -65,8 +65,7 @@ fn of_ack(seen: &Seen, n: u16, part: Part) -> bool
     ensures { result ≡ row of_ack seen.now n (lapic_seen seen.now n) part }
 {
     let lapic = own_lapic(seen, n);
-    is_lapic(n, part)
-        || (!lapic.has_nmi() && hears_pair(&lapic, n) && of_pair_given(seen, part))
+    is_lapic(n, part) || (!lapic.has_nmi() && hears_pair(&lapic, n) && of_pair_given(seen, part))
 }
 
 // What a processor reaches that ends its interrupt.

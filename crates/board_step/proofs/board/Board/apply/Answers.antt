@@ -92,14 +92,14 @@ returns-clause-applied c =
     let done : Done = record { reply = c.in-Ok.reply; at = a.length } in
     elim c.if-publishes.branch [
       | then-publishes w ↦
-        let rig = w.publish.new.self in
-        let again : Stepped b c.args.caller call (parts_of a.rig.parts) (parts_of rig.parts) c.in-Ok.reply before now = subst (λ (p : Parts). Stepped b c.args.caller call (parts_of a.rig.parts) (parts_of p) c.in-Ok.reply before now) (sym w.publish.ensures.parts) stepped in
-        let fits = subst (FitsButTick a.shape) (sym w.publish.ensures.parts) c.in-Ok.ensures.fits in
-        subst (λ (x : Board × Board). Applied x.0 c.args.caller call done before now x.1) (λ i. (c.self.view_is i, sym w.self-is i))
-        (call_applied a c.self.invariant c.args.caller call c.in-Ok.reply before now rig again may fits true (sym w.if-publishes.true ∙ is))
+          let rig = w.publish.new.self in
+          let again : Stepped b c.args.caller call (parts_of a.rig.parts) (parts_of rig.parts) c.in-Ok.reply before now = subst (λ (p : Parts). Stepped b c.args.caller call (parts_of a.rig.parts) (parts_of p) c.in-Ok.reply before now) (sym w.publish.ensures.parts) stepped in
+          let fits = subst (FitsButTick a.shape) (sym w.publish.ensures.parts) c.in-Ok.ensures.fits in
+          subst (λ (x : Board × Board). Applied x.0 c.args.caller call done before now x.1) (λ i. (c.self.view_is i, sym w.self-is i))
+          (call_applied a c.self.invariant c.args.caller call c.in-Ok.reply before now rig again may fits true (sym w.if-publishes.true ∙ is))
       | else-publishes w ↦
-        subst (λ (x : Board × Board). Applied x.0 c.args.caller call done before now x.1) (λ i. (c.self.view_is i, sym w.self-is i))
-        (call_applied a c.self.invariant c.args.caller call c.in-Ok.reply before now c.step_on.new.rig stepped may c.in-Ok.ensures.fits false (sym w.if-publishes.false ∙ is))
+          subst (λ (x : Board × Board). Applied x.0 c.args.caller call done before now x.1) (λ i. (c.self.view_is i, sym w.self-is i))
+          (call_applied a c.self.invariant c.args.caller call c.in-Ok.reply before now c.step_on.new.rig stepped may c.in-Ok.ensures.fits false (sym w.if-publishes.false ∙ is))
     ]
 
 pub returns-clause-outside : goal.returns-clause-outside
@@ -116,12 +116,12 @@ returns-clause-outside c =
     let stepped : Stepped b c.args.caller call (parts_of a.rig.parts) (parts_of c.step_on.new.rig.parts) c.in-Ok.reply before now = c.in-Ok.ensures.leads refl b (kept_is_of a c.self.invariant) in
     elim c.if-publishes.branch [
       | then-publishes w ↦
-        let rig = w.publish.new.self in
-        let again : Stepped b c.args.caller call (parts_of a.rig.parts) (parts_of rig.parts) c.in-Ok.reply before now = subst (λ (p : Parts). Stepped b c.args.caller call (parts_of a.rig.parts) (parts_of p) c.in-Ok.reply before now) (sym w.publish.ensures.parts) stepped in
-        let fits = subst (FitsButTick a.shape) (sym w.publish.ensures.parts) c.in-Ok.ensures.fits in
-        subst (λ (x : Board × Board). (p : Part) → reach x.0 c.args.caller call p ≡ false → part_of x.1 p ≡ part_of x.0 p) (λ i. (c.self.view_is i, sym w.self-is i))
-        (call_outside a c.self.invariant c.args.caller call c.in-Ok.reply before now rig again may fits true (sym w.if-publishes.true ∙ is))
+          let rig = w.publish.new.self in
+          let again : Stepped b c.args.caller call (parts_of a.rig.parts) (parts_of rig.parts) c.in-Ok.reply before now = subst (λ (p : Parts). Stepped b c.args.caller call (parts_of a.rig.parts) (parts_of p) c.in-Ok.reply before now) (sym w.publish.ensures.parts) stepped in
+          let fits = subst (FitsButTick a.shape) (sym w.publish.ensures.parts) c.in-Ok.ensures.fits in
+          subst (λ (x : Board × Board). (p : Part) → reach x.0 c.args.caller call p ≡ false → part_of x.1 p ≡ part_of x.0 p) (λ i. (c.self.view_is i, sym w.self-is i))
+          (call_outside a c.self.invariant c.args.caller call c.in-Ok.reply before now rig again may fits true (sym w.if-publishes.true ∙ is))
       | else-publishes w ↦
-        subst (λ (x : Board × Board). (p : Part) → reach x.0 c.args.caller call p ≡ false → part_of x.1 p ≡ part_of x.0 p) (λ i. (c.self.view_is i, sym w.self-is i))
-        (call_outside a c.self.invariant c.args.caller call c.in-Ok.reply before now c.step_on.new.rig stepped may c.in-Ok.ensures.fits false (sym w.if-publishes.false ∙ is))
+          subst (λ (x : Board × Board). (p : Part) → reach x.0 c.args.caller call p ≡ false → part_of x.1 p ≡ part_of x.0 p) (λ i. (c.self.view_is i, sym w.self-is i))
+          (call_outside a c.self.invariant c.args.caller call c.in-Ok.reply before now c.step_on.new.rig stepped may c.in-Ok.ensures.fits false (sym w.if-publishes.false ∙ is))
     ]
