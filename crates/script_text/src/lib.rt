@@ -19,6 +19,7 @@ mod words;
 
 pub use causes::LineFault;
 pub use laws::{scripts_fit, texts_are_read};
+pub use numbers::{push_hex, value_width};
 pub use progress::{Phase, Progress};
 pub use script::{Script, ScriptFault, parse};
 pub use spelling::push_call;

@@ -192,7 +192,7 @@ fn hex_places(value: u64) -> u32
     0
 }
 
-// Puts the value at the end of the text, in hexadecimal with at least `width` digits.
+/// Puts the value at the end of the text, in hexadecimal with at least `width` digits.
 pub fn push_hex(text: &mut String, value: u64, width: u32) -> Result<(), AllocError>
     requires { width ≤ 16 }
     ensures { OnOk result (string_bytes text.new ≡ string_bytes text.old ++ hex_text width value) }
@@ -200,7 +200,8 @@ pub fn push_hex(text: &mut String, value: u64, width: u32) -> Result<(), AllocEr
     push_digits(text, value, hex_places(value).max(width))
 }
 
-// How many digits at least a value has beside that length in bytes.
+/// How many digits at least a value has beside that length in bytes: two a byte, of at most 8 bytes, and one where there is
+/// none.
 pub fn value_width(len: u8) -> u32
     ensures width { result ≡ value_width len }
     ensures few { result ≤ 16 }
