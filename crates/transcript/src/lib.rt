@@ -5,5 +5,6 @@ mod printing;
 mod replies;
 mod transcript;
 
-pub use printing::print;
+pub use printing::{print, push_event};
+pub use replies::{len_of, push_reply};
 pub use transcript::Transcript;

@@ -10,7 +10,7 @@ use script_text::push_call;
 use std::alloc::{AllocError, Global};
 use std::fmt::Write;
 
-// Puts the line of an event, without its line feed, at the end.
+/// Puts the line of an event, without its line feed, at the end.
 pub fn push_event(text: &mut String, event: Event) -> Result<(), AllocError>
     ensures { OnOk result (string_bytes text.new ≡ string_bytes text.old ++ event_line event) }
 {

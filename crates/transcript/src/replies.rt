@@ -9,7 +9,7 @@ use script_text::{push_hex, value_width};
 use std::alloc::AllocError;
 use std::fmt::Write;
 
-// The length in bytes that a call has; 0 for a call that has none.
+/// The length in bytes that a call has; 0 for a call that has none.
 pub fn len_of(call: &Call) -> u8
     ensures { result ≡ len_of call.now }
 {
@@ -33,7 +33,7 @@ fn push_named(text: &mut String, name: &str, value: u64, width: u32) -> Result<(
     push_hex(text, value, width)
 }
 
-// Puts the reply to a call of that length at the end.
+/// Puts the reply to a call of that length at the end.
 pub fn push_reply(text: &mut String, len: u8, reply: Reply) -> Result<(), AllocError>
     ensures { OnOk result (string_bytes text.new ≡ string_bytes text.old ++ reply_text len reply) }
 {
