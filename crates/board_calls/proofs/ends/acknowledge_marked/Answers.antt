@@ -11,7 +11,7 @@ use Rattle.board_calls.proofs.ends.acknowledge_marked.Goals.{then-marks-pin+in-O
 
 pub loop-pin-init : goal.loop-pin-init
 loop-pin-init g c = record {
-  does = λ straight. leads_first (routing_of_words (g.R.Rig.published c.args.rig.now)) c.args.shape.now c.args.marks.now (parts_of (g.R.Rig.held c.args.rig.now)) (g.R.Rig.wishes c.args.rig.now) c.args.events.now.items;
+  does = λ straight. leads_first (routing_of_words (g.R.Rig.published c.args.rig.now)) c.args.shape.now c.args.marks (parts_of (g.R.Rig.held c.args.rig.now)) (g.R.Rig.wishes c.args.rig.now) c.args.events.now.items;
   held = λ part. refl;
   fits = c.requires;
   published = refl;
@@ -22,7 +22,7 @@ loop-pin-init g c = record {
 pub loop-pin-preserved : goal.loop-pin-preserved
 loop-pin-preserved g c =
     let shape = c.args.shape.now in
-    let marks = c.args.marks.now in
+    let marks = c.args.marks in
     let start = parts_of (g.R.Rig.held c.args.rig.now) in
     let first = g.R.Rig.wishes c.args.rig.now in
     let old = c.args.events.now.items in
@@ -63,7 +63,7 @@ loop-pin-preserved g c =
 pub returns-in-Err-clause-does : goal.returns-in-Err-clause-does
 returns-in-Err-clause-does g c = λ straight.
     let shape = c.args.shape.now in
-    let marks = c.args.marks.now in
+    let marks = c.args.marks in
     let words = g.R.Rig.published c.args.rig.now in
     let rig = c.loop-pin.rig in
     let next = c.ack_pin.new.rig in
@@ -77,5 +77,5 @@ returns-in-Err-clause-does g c = λ straight.
 pub returns-clause-does : goal.returns-clause-does
 returns-clause-does g c = λ straight.
     let rig = c.loop-pin.rig in
-    leads_last (routing_of_words (g.R.Rig.published c.args.rig.now)) c.args.shape.now c.args.marks.now (parts_of (g.R.Rig.held c.args.rig.now)) (g.R.Rig.wishes c.args.rig.now) c.args.events.now.items
+    leads_last (routing_of_words (g.R.Rig.published c.args.rig.now)) c.args.shape.now c.args.marks (parts_of (g.R.Rig.held c.args.rig.now)) (g.R.Rig.wishes c.args.rig.now) c.args.events.now.items
     c.loop-pin.pin (parts_of (g.R.Rig.held rig)) (g.R.Rig.wishes rig) c.loop-pin.events.items (c.loop-pin.invariant.does straight) c.loop-pin-test.false
