@@ -10,7 +10,7 @@ ghost use Rattle.board_raise.specs.Shown.{DoesQuietly};
 ghost use Rattle.board_ack.specs.Acknowledge.{acknowledge_each};
 ghost use Rattle.board_ack.specs.OnHand.{Adds};
 ghost use Rattle.board_calls.specs.Processors.{end_vector, end_of_interrupt, ended_reply};
-ghost use Rattle.board_calls.specs.Done.{SameInHand, FitsShape};
+ghost use Rattle.board_calls.specs.Done.{IsMissing, SameInHand, FitsShape};
 ghost use Rattle.board_calls.specs.Told.{TellsOn};
 ghost use Rattle.board_calls.specs.Own.{changing, pins_marked, pins_seen};
 
@@ -30,6 +30,7 @@ pub fn end_of_interrupt<R: Rig>(
     requires cpu { n < shape.now.cpus }
     requires fits { FitsShape shape.now (R.held rig.old) }
     ensures does { R.astray rig.new ≡ false → TellsOn (λ reply. reply ∷ []) result events.old.items events.new.items (parts_of (R.held rig.new)) (R.wishes rig.new) (run_on (end_of_interrupt (routing_of_words (R.published rig.old)) shape.now n) (parts_of (R.held rig.old)) (R.wishes rig.old)) }
+    ensures missing { IsMissing result (R.held rig.old) }
     ensures held { SameInHand (R.held rig.old) (R.held rig.new) }
     ensures fits { FitsShape shape.now (R.held rig.new) }
     ensures published { R.published rig.new ≡ R.published rig.old }
@@ -50,6 +51,7 @@ pub fn end_of_interrupt<R: Rig>(
 fn end_service(parts: &mut Parts, n: u16) -> Result<Option<u8>, Lacks>
     requires { n < length parts.old.lapics }
     ensures does { (ws : Wishes) → DoesQuietly (λ vector. vector) result (parts_of parts.new) ws (run_on (changing n ended (λ apic. greatest_vector apic.isr)) (parts_of parts.old) ws) }
+    ensures missing { IsMissing result parts.old }
     ensures held { SameInHand parts.old parts.new }
     ensures fits { (shape : Sizes) → FitsShape shape parts.old → FitsShape shape parts.new }
 {
@@ -81,6 +83,7 @@ pub fn end_vector<R: Rig>(
 ) -> Result<(), Lacks>
     requires { FitsShape shape.now (R.held rig.old) }
     ensures does { R.astray rig.new ≡ false → TellsOn (λ _. []) result events.old.items events.new.items (parts_of (R.held rig.new)) (R.wishes rig.new) (run_on (end_vector (routing_of_words (R.published rig.old)) shape.now vector) (parts_of (R.held rig.old)) (R.wishes rig.old)) }
+    ensures missing { IsMissing result (R.held rig.old) }
     ensures held { SameInHand (R.held rig.old) (R.held rig.new) }
     ensures fits { FitsShape shape.now (R.held rig.new) }
     ensures published { R.published rig.new ≡ R.published rig.old }
@@ -99,6 +102,7 @@ pub fn end_vector<R: Rig>(
 // The pins of the I/O APIC in hand whose entry has the vector.
 fn pins_in_hand(parts: &Parts, vector: u8) -> Result<Pins, Lacks>
     ensures does { (ws : Wishes) → DoesQuietly (λ marks. pins_marked marks) result (parts_of parts.now) ws (run_on (pins_seen vector) (parts_of parts.now) ws) }
+    ensures missing { IsMissing result parts.now }
 {
     match &parts.ioapic {
         None => Err(Lacks { part: Part::Ioapic }),
@@ -115,6 +119,7 @@ fn acknowledge_marked<R: Rig>(
 ) -> Result<(), Lacks>
     requires { FitsShape shape.now (R.held rig.old) }
     ensures does { R.astray rig.new ≡ false → Adds result events.old.items events.new.items (parts_of (R.held rig.new)) (R.wishes rig.new) (run_on (acknowledge_each (routing_of_words (R.published rig.old)) shape.now (pins_marked marks)) (parts_of (R.held rig.old)) (R.wishes rig.old)) }
+    ensures missing { IsMissing result (R.held rig.old) }
     ensures held { SameInHand (R.held rig.old) (R.held rig.new) }
     ensures fits { FitsShape shape.now (R.held rig.new) }
     ensures published { R.published rig.new ≡ R.published rig.old }
