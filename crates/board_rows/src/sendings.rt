@@ -325,7 +325,7 @@ fn ties_are_wished_for(rt: HostRuntime) -> Result<(), Fail> {
         flat(0x0400_0000, 0x10),
     ];
     let mut three = board(rt.alloc(), &setups)?;
-    three.wish_for(set(0b101));
+    three.wish_for(&[set(0b101)]);
     let steps = [
         Msi(0xfee0_7004, 0x162, delivered(0b100, 0)),
         Msi(0xfee0_7004, 0x162, delivered(0b10, 0)),

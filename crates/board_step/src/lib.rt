@@ -11,6 +11,7 @@
 mod board;
 mod bodies;
 mod due;
+mod follow;
 mod laws;
 mod limits;
 mod on_board;
@@ -23,7 +24,9 @@ mod reach_acks;
 mod reach_calls;
 mod reach_registrations;
 mod reach_signals;
+mod same;
 mod seen;
+mod shown;
 mod sound;
 mod step;
 mod typed;
