@@ -6,8 +6,8 @@ ghost use Rattle.board_step.specs.Bodies.{entry_of};
 ghost use Rattle.board_step.specs.Step.{Step};
 
 use crate::board::Board;
+use crate::choices::wishes_shown;
 use crate::same::{same_events, same_reply};
-use crate::shown::wishes_shown;
 use irq_base::{Call, Caller, EventList, Events, Reply};
 
 // Whether a call had this reply and these events.

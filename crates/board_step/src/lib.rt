@@ -10,6 +10,7 @@
 
 mod board;
 mod bodies;
+mod choices;
 mod due;
 mod follow;
 mod laws;
@@ -26,7 +27,6 @@ mod reach_registrations;
 mod reach_signals;
 mod same;
 mod seen;
-mod shown;
 mod sound;
 mod step;
 mod typed;

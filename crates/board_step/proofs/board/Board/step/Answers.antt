@@ -154,7 +154,7 @@ returns-clause-outside c =
 pub returns-clause-ran : goal.returns-clause-ran
 returns-clause-ran c =
     subst (λ (b : Board). Ran b c.args.caller c.args.call.now c.args.wishes.now c.in-Ok.reply c.args.events.now.items c.step_on.new.events.items) c.self.view_is
-    (wishing_ran c.self.inside c.wish_for.new.self c.args.wishes.now c.wish_for.ensures c.self.invariant c.args.caller c.args.call.now c.in-Ok.reply c.args.events.now.items c.step_on.new.events.items _ _ (c.in-Ok.ensures.does refl))
+    (wishing_ran c.self.inside c.wish_for.new.self c.args.wishes.now c.wish_for.ensures c.self.invariant c.args.caller c.args.call.now c.in-Ok.reply c.args.events.now.items c.step_on.new.events.items (parts_of c.step_on.new.rig.parts) c.step_on.new.rig.wishes (c.in-Ok.ensures.does refl))
 
 pub returns-in-Some-clause-stays : goal.returns-in-Some-clause-stays
 returns-in-Some-clause-stays c = wishing_is c.self.inside c.wish_for.new.self c.args.wishes.now c.wish_for.ensures ∙ c.self.view_is

@@ -1,7 +1,7 @@
 use Rattle.std.proofs.Common.{◌≡◌, false, true≢false, ◌++◌, IsTrue, sym, ap, ◌∙◌, arith}
 use Rattle.board_model.specs.Statuses.{Sent}
 use Rattle.board_step.proofs.Wished.{somebody, unwished}
-use Rattle.board_step.proofs.shown.add_sets.Goals as goal
+use Rattle.board_step.proofs.choices.add_sets.Goals as goal
 
 pub returns-then-not-is_empty : goal.returns-then-not-is_empty
 returns-then-not-is_empty c =

@@ -2,7 +2,7 @@ use Rattle.std.proofs.Common.{◌≡◌, ◌+◌, ◌-◌, ◌≤◌, ◌++◌, 
 use Rattle.board_step.specs.History.{wish_shown, wish_replied, wishes_told}
 use Rattle.board_step.proofs.Listed.{drop_here}
 use Rattle.board_step.proofs.Wished.{event_few}
-use Rattle.board_step.proofs.shown.wishes_shown.Goals as goal
+use Rattle.board_step.proofs.choices.wishes_shown.Goals as goal
 
 pub loop-k-preserved : goal.loop-k-preserved
 loop-k-preserved c =
