@@ -2,7 +2,7 @@ mod Cuts
 mod Digits
 mod RowLists
 mod Fields
-mod LineCuts
+pub mod LineCuts
 mod Indexes
 mod Readings
 mod Tasks

@@ -1,1 +1,4 @@
 mod Lines
+mod Arrows
+mod Readings
+mod Wholes

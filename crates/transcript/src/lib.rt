@@ -1,10 +1,16 @@
 //! Transcripts: the text of a run, printed and read.
 #![tactic(auto)]
 
+mod arrow;
+mod fields;
+mod happenings;
 mod printing;
+mod reading;
 mod replies;
+mod spelled;
 mod transcript;
 
 pub use printing::{print, push_event};
+pub use reading::{Stage, read};
 pub use replies::{len_of, push_reply};
 pub use transcript::Transcript;
