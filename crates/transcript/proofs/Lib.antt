@@ -2,3 +2,6 @@ mod Lines
 mod Arrows
 mod Readings
 mod Wholes
+mod FieldsAgain
+mod LinesAgain
+mod TextsAgain

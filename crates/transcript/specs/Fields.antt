@@ -28,7 +28,8 @@ use Rattle.script_text.specs.Commands.{fixed_word, three_fields}
 -- a set of processors behind its label, as `new=`: the word of the set in hexadecimal
 abbrev pub set_field : List ℕ → List ℕ → Result Numbers LineCause
 set_field label word =
-    if same_text (take (length label) word) label then of_one (λ bits. members_of 64 bits) (hex64 (drop (length label) word)) else Err Number
+    if same_text (take (length label) word) label then of_one (λ bits. members_of 64 bits) (hex64 (drop (length label) word))
+    else Err Number
 
 -- whether the 8259A newly took it
 abbrev pub pic_field : List ℕ → Result Bool LineCause
