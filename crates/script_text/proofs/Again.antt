@@ -79,10 +79,10 @@ no-more j k v h less =
     let below : v < 2 ^ (4 * j) = omega (arith, near) in
     div-eq_of_lt (omega (arith, below, most))
 
-in_range : (least most n : ℕ) → least ≤ n → n ≤ most → between least most (Some n) ≡ Ok n
+pub in_range : (least most n : ℕ) → least ≤ n → n ≤ most → between least most (Some n) ≡ Ok n
 in_range least most n above below = grind (arith, nat_tests, above, below)
 
-hex-fits : (most : ℕ) (w : List ℕ) → 0 < length w → length w ≤ 16 → hex most w ≡ between 0 most (hex_from 0 w)
+pub hex-fits : (most : ℕ) (w : List ℕ) → 0 < length w → length w ≤ 16 → hex most w ≡ between 0 most (hex_from 0 w)
 hex-fits most w some few = grind (arith, nat_tests, some, few)
 
 -- what is spelled in hexadecimal is read

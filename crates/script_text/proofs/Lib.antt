@@ -2,20 +2,20 @@ mod Cuts
 mod Digits
 mod RowLists
 mod Fields
-mod LineCuts
+pub mod LineCuts
 mod Indexes
 mod Readings
 mod Tasks
 mod Allowed
 mod Asked
-mod Texts
-mod Again
-mod WordsAgain
-mod CommandsAgain
+pub mod Texts
+pub mod Again
+pub mod WordsAgain
+pub mod CommandsAgain
 mod RowsAgain
-mod CallsAgain
-mod LinesAgain
-mod ScriptsAgain
+pub mod CallsAgain
+pub mod LinesAgain
+pub mod ScriptsAgain
 mod FieldsFit
 mod CommandsFit
 mod ScriptsFit

@@ -35,7 +35,7 @@ unfolding judge
 read-printable p s line t h =
     printable-of (list_all is_printable line) (if is_over p then Err End else if is_passed_over line then Ok (p, s) else worded p s (words_of line)) t h
 
-no-feed : (line : List ℕ) → list_all is_printable line ≡ true → All (λ b. nat_eq b 10 ≡ false) line
+pub no-feed : (line : List ℕ) → list_all is_printable line ≡ true → All (λ b. nat_eq b 10 ≡ false) line
 no-feed [] h = All-nil (λ (b : ℕ). nat_eq b 10 ≡ false)
 no-feed (b ∷ line) h = All-cons (λ (b : ℕ). nat_eq b 10 ≡ false) b line (one b (and-left _ _ h)) (no-feed line (and-right _ _ h))
   where

@@ -74,6 +74,9 @@ hex32 word = hex 0xffffffff word
 abbrev pub hex16 : List ℕ → Result ℕ LineCause
 hex16 word = hex 0xffff word
 
+abbrev pub hex8 : List ℕ → Result ℕ LineCause
+hex8 word = hex 0xff word
+
 abbrev pub number64 : List ℕ → Result ℕ LineCause
 number64 word = decimal_in 0 0xffffffffffffffff word
 

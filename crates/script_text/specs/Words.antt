@@ -1,5 +1,5 @@
 -- Lines of a text, and words of a line.
-use Rattle.std.specs.Prelude.{ℕ, ◌+◌, Bool, true, false, nat_eq, List, [], ◌∷◌, take, drop, length, position, if◌then◌else◌, Some, None, Ok, Err}
+use Rattle.std.specs.Prelude.{◌≡◌, ℕ, ◌+◌, Bool, true, false, nat_eq, List, [], ◌∷◌, take, drop, length, position, if◌then◌else◌, Some, None, Ok, Err}
 use Rattle.std.specs.declared.option.Option.{Option}
 use Rattle.std.specs.declared.result.Result.{Result}
 use Rattle.std.specs.List.{slice_split}
@@ -57,6 +57,11 @@ cut_at byte bytes = cut_by bytes (position (λ b. nat_eq b byte) bytes)
 abbrev pub more_parts : ℕ → List ℕ → List (List ℕ)
 more_parts byte [] = []
 more_parts byte (b ∷ text) = parts_of byte text
+
+-- nothing, or a text that begins with that byte
+abbrev pub BeginsWith : ℕ → List ℕ → Type 0
+BeginsWith byte [] = Unit {0}
+BeginsWith byte (b ∷ text) = b ≡ byte
 
 abbrev pub more_words : List ℕ → List (List ℕ)
 more_words tail = more_parts 32 tail

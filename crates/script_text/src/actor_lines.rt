@@ -22,8 +22,8 @@ fn is_digits(word: &[u8]) -> bool
     word.iter().all(|b| 48 <= *b && *b <= 57)
 }
 
-// An actor's name.
-fn caller(word: &[u8]) -> Result<Caller, LineCause>
+/// The actor that has this name: `cpu` or `dev` and a number of 16 bits.
+pub fn caller(word: &[u8]) -> Result<Caller, LineCause>
     ensures { result ≡ caller word.now }
 {
     if word.len() < 4 {

@@ -36,7 +36,7 @@ fn first_of(a: LineCause, b: LineCause) -> LineCause
     if order_of(a) <= order_of(b) { a } else { b }
 }
 
-// Both fields; where both are wrong, the first of their causes.
+/// Both fields; where both are wrong, the first of their causes.
 pub fn both<A: Drop, B: Drop>(
     a: Result<A, LineCause>,
     b: Result<B, LineCause>,
@@ -51,7 +51,7 @@ pub fn both<A: Drop, B: Drop>(
     }
 }
 
-// Three fields.
+/// Three fields; where several are wrong, the first of their causes.
 pub fn all_three<A: Drop, B: Drop, C: Drop>(
     a: Result<A, LineCause>,
     b: Result<B, LineCause>,
@@ -81,7 +81,7 @@ pub fn all_five<A: Drop, B: Drop, C: Drop, D: Drop, E: Drop>(
     }
 }
 
-// Both fields, the second of which takes memory.
+/// Both fields, the second of which takes memory; where both are wrong, the first of their causes.
 pub fn both_in_memory<A: Drop, B: Drop>(
     a: Result<A, LineCause>,
     b: Result<B, LineFault>,
@@ -98,7 +98,7 @@ pub fn both_in_memory<A: Drop, B: Drop>(
     }
 }
 
-// What takes no memory.
+/// A field that takes no memory, beside those that do.
 pub fn or_bad<A: Drop>(read: Result<A, LineCause>) -> Result<A, LineFault>
     ensures { Says result read }
 {

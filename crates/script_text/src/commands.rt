@@ -358,7 +358,7 @@ fn reroute(alloc: Global, tail: &[u8]) -> Result<Call, LineFault>
     }
 }
 
-// The call of a command: `tail` is nothing, or a space and the words behind the command's name.
+/// The call of a command: `tail` is nothing, or a space and the words behind the command's name.
 pub fn command(alloc: Global, name: &[u8], tail: &[u8]) -> Result<Call, LineFault>
     ensures { Says result (command name.now (more_words tail.now)) }
 {

@@ -29,7 +29,8 @@ pub enum Place {
     Over,
 }
 
-fn is_printable(line: &[u8]) -> bool
+/// Whether each byte of a line is one that a line may have, 20h to 7Eh.
+pub fn is_printable(line: &[u8]) -> bool
     ensures { result ≡ list_all is_printable line.now }
 {
     line.iter().all(|b| 0x20 <= *b && *b <= 0x7e)

@@ -17,10 +17,16 @@ mod spelling;
 mod task;
 mod words;
 
-pub use causes::LineFault;
+pub use actor_lines::caller;
+pub use causes::{LineFault, all_three, both, both_in_memory, or_bad};
+pub use commands::command;
+pub use judging::is_printable;
 pub use laws::{scripts_fit, texts_are_read};
-pub use numbers::{push_hex, value_width};
+pub use numbers::{hex8, hex64, number8, number16, number64, push_hex, value_width};
 pub use progress::{Phase, Progress};
 pub use script::{Script, ScriptFault, parse};
 pub use spelling::push_call;
 pub use task::{ActorLine, Task};
+pub use words::{
+    cut, first_word, has_empty_word, is_none, next_word, one_word, three_words, two_words,
+};

@@ -1,6 +1,6 @@
 //! Numbers of scripts.
 ghost use Rattle.std.specs.Prelude.{◌≡◌, OnOk, ◌++◌, ◌<◌, ◌≤◌, ◌^◌, length, IfSome, IfOk, Some, None};
-ghost use Rattle.script_text.specs.Numbers.{hex_value, hex_from, decimal_value, decimal_from, between, hex, decimal_in, hex_digit, hex_digits, hex_places, hex_text, value_width, hex64, hex32, hex16, number64, number16, number8};
+ghost use Rattle.script_text.specs.Numbers.{hex_value, hex_from, decimal_value, decimal_from, between, hex, decimal_in, hex_digit, hex_digits, hex_places, hex_text, value_width, hex64, hex32, hex16, hex8, number64, number16, number8};
 ghost use Rattle.std.specs.String.{string_bytes};
 
 use irq_base::LineCause;
@@ -55,7 +55,7 @@ fn hex(most: u64, word: &[u8]) -> Result<u64, LineCause>
     }
 }
 
-// A hexadecimal number of 64 bits.
+/// A hexadecimal number of 64 bits: 1 to 16 digits of either case.
 pub fn hex64(word: &[u8]) -> Result<u64, LineCause>
     ensures { result ≡ hex64 word.now }
 {
@@ -78,6 +78,16 @@ pub fn hex16(word: &[u8]) -> Result<u16, LineCause>
 {
     match hex(0xffff, word) {
         Ok(n) => Ok(n as u16),
+        Err(cause) => Err(cause),
+    }
+}
+
+/// A hexadecimal number of 8 bits: 1 to 16 digits of either case.
+pub fn hex8(word: &[u8]) -> Result<u8, LineCause>
+    ensures { result ≡ hex8 word.now }
+{
+    match hex(0xff, word) {
+        Ok(n) => Ok(n as u8),
         Err(cause) => Err(cause),
     }
 }
@@ -125,14 +135,14 @@ pub fn decimal_in(least: u64, most: u64, word: &[u8]) -> Result<u64, LineCause>
     }
 }
 
-// A decimal number of 64 bits.
+/// A decimal number of 64 bits, without leading zeros.
 pub fn number64(word: &[u8]) -> Result<u64, LineCause>
     ensures { result ≡ number64 word.now }
 {
     decimal_in(0, 0xffff_ffff_ffff_ffff, word)
 }
 
-// A decimal number of 16 bits.
+/// A decimal number of 16 bits, without leading zeros.
 pub fn number16(word: &[u8]) -> Result<u16, LineCause>
     ensures { result ≡ number16 word.now }
 {
@@ -142,7 +152,7 @@ pub fn number16(word: &[u8]) -> Result<u16, LineCause>
     }
 }
 
-// A decimal number of 8 bits.
+/// A decimal number of 8 bits, without leading zeros.
 pub fn number8(word: &[u8]) -> Result<u8, LineCause>
     ensures { result ≡ number8 word.now }
 {

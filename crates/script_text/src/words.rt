@@ -1,7 +1,7 @@
 //! Words of a line: a tail is nothing, or a space with words behind it.
-ghost use Rattle.std.specs.Prelude.{◌≡◌, ◌+◌, ◌<◌, ◌≤◌, ◌∷◌, [], length, take, drop, nat_eq, position, Some, None, IfSome, MatchOption};
+ghost use Rattle.std.specs.Prelude.{◌≡◌, ◌+◌, ◌<◌, ◌≤◌, ◌∷◌, ◌++◌, [], length, slice_index, take, drop, nat_eq, position, Some, None, IfSome, MatchOption};
 ghost use Rattle.std.specs.List.{list_any};
-ghost use Rattle.script_text.specs.Words.{parts_of, more_parts, words_of, more_words, is_empty, is_empty_word, one_of, two_of, three_of, cut_at};
+ghost use Rattle.script_text.specs.Words.{parts_of, more_parts, words_of, more_words, BeginsWith, is_empty, is_empty_word, one_of, two_of, three_of, cut_at};
 
 // The place of the first byte of that value.
 fn place_of(bytes: &[u8], byte: u8) -> Option<usize>
@@ -16,6 +16,8 @@ fn place_of(bytes: &[u8], byte: u8) -> Option<usize>
 pub fn first_part(text: &[u8], byte: u8) -> (&[u8], &[u8])
     ensures parts { parts_of byte text.now ≡ result.0.now ∷ more_parts byte result.1.now }
     ensures fewer { length result.1.now ≤ length text.now }
+    ensures whole { text.now ≡ result.0.now ++ result.1.now }
+    ensures begins { BeginsWith byte result.1.now }
 {
     match place_of(text, byte) {
         None => (text, b"".as_slice()),
@@ -28,6 +30,8 @@ pub fn next_part(tail: &[u8], byte: u8) -> Option<(&[u8], &[u8])>
     ensures parts { let parts = more_parts byte tail.now in
         MatchOption result (parts ≡ []) (λ r. parts ≡ r.0.now ∷ more_parts byte r.1.now) }
     ensures fewer { IfSome result (λ r. length r.1.now < length tail.now) }
+    ensures whole { IfSome result (λ r. tail.now ≡ slice_index tail.now 0 ∷ (r.0.now ++ r.1.now)) }
+    ensures begins { IfSome result (λ r. BeginsWith byte r.1.now) }
 {
     match tail {
         [] => None,
@@ -35,7 +39,7 @@ pub fn next_part(tail: &[u8], byte: u8) -> Option<(&[u8], &[u8])>
     }
 }
 
-// What stands before the first byte of that value, and what stands behind it.
+/// What stands before the first byte of that value, and what stands behind it.
 pub fn cut(bytes: &[u8], byte: u8) -> Option<(&[u8], &[u8])>
     ensures parts { let cut = cut_at byte bytes.now in
         MatchOption result (cut ≡ None) (λ r. cut ≡ Some (r.0.now, r.1.now)) }
@@ -51,30 +55,33 @@ pub fn cut(bytes: &[u8], byte: u8) -> Option<(&[u8], &[u8])>
     }
 }
 
-// The first word, and the tail behind it.
+/// The first word, and the tail behind it.
 pub fn first_word(text: &[u8]) -> (&[u8], &[u8])
-    ensures { words_of text.now ≡ result.0.now ∷ more_words result.1.now }
+    ensures words { words_of text.now ≡ result.0.now ∷ more_words result.1.now }
+    ensures begins { BeginsWith 32 result.1.now }
 {
     first_part(text, b' ')
 }
 
-// The next word of a tail, and the tail behind it.
+/// The next word of a tail, and the tail behind it. A tail is nothing, or a space with words behind it.
 pub fn next_word(tail: &[u8]) -> Option<(&[u8], &[u8])>
     ensures words { let words = more_words tail.now in
         MatchOption result (words ≡ []) (λ r. words ≡ r.0.now ∷ more_words r.1.now) }
     ensures fewer { IfSome result (λ r. length r.1.now < length tail.now) }
+    ensures whole { IfSome result (λ r. tail.now ≡ slice_index tail.now 0 ∷ (r.0.now ++ r.1.now)) }
+    ensures begins { IfSome result (λ r. BeginsWith 32 r.1.now) }
 {
     next_part(tail, b' ')
 }
 
-// Whether no word is left.
+/// Whether no word is left.
 pub fn is_none(tail: &[u8]) -> bool
     ensures { result ≡ is_empty (more_words tail.now) }
 {
     next_word(tail).is_none()
 }
 
-// One word, and no more.
+/// One word, and no more.
 pub fn one_word(tail: &[u8]) -> Option<&[u8]>
     ensures { let one = one_of (more_words tail.now) in
         MatchOption result (one ≡ None) (λ r. one ≡ Some r.now) }
@@ -83,7 +90,7 @@ pub fn one_word(tail: &[u8]) -> Option<&[u8]>
     if is_none(tail) { Some(a) } else { None }
 }
 
-// Two words, and no more.
+/// Two words, and no more.
 pub fn two_words(tail: &[u8]) -> Option<(&[u8], &[u8])>
     ensures { let two = two_of (more_words tail.now) in
         MatchOption result (two ≡ None) (λ r. two ≡ Some (r.0.now, r.1.now)) }
@@ -93,7 +100,7 @@ pub fn two_words(tail: &[u8]) -> Option<(&[u8], &[u8])>
     if is_none(tail) { Some((a, b)) } else { None }
 }
 
-// Three words, and no more.
+/// Three words, and no more.
 #[tactic(auto, using(crate::proofs::Cuts::count_rules))]
 pub fn three_words(tail: &[u8]) -> Option<(&[u8], &[u8], &[u8])>
     ensures { let three = three_of (more_words tail.now) in
@@ -118,7 +125,7 @@ fn has_empty_in(tail: &[u8]) -> bool
     false
 }
 
-// Whether a word of a line is empty: two spaces stand together, or one at an end.
+/// Whether a word of a line is empty: two spaces stand together, or one at an end.
 pub fn has_empty_word(line: &[u8]) -> bool
     ensures { result ≡ list_any is_empty_word (words_of line.now) }
 {

@@ -1,1 +1,7 @@
 mod Lines
+mod Arrows
+mod Readings
+mod Wholes
+mod FieldsAgain
+mod LinesAgain
+mod TextsAgain

@@ -1,1 +1,4 @@
 pub mod Text
+pub mod Fields
+pub mod Reading
+pub mod Fitting

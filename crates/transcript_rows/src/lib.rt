@@ -1,5 +1,7 @@
-//! Transcripts as texts: a whole run, and the spelling of each reply and event.
+//! Transcripts as texts: what is printed of a run, what is read as one, and the first bad line of another text.
 #![tactic(auto)]
 
 #[cfg(test)]
 mod printed;
+#[cfg(test)]
+mod readings;
