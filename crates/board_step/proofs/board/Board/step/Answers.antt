@@ -47,8 +47,8 @@ unreachable-requires c =
     let allowed : is_allowed c.args.caller call a.shape ≡ true = subst (λ (x : Board). is_allowed c.args.caller call x.shape ≡ true) (sym view) c.requires.allowed in
     never_lacks a kept c.args.caller call allowed c.in-Err.field-0.part (c.in-Err.ensures.leads refl (board_in a) (kept_is_of a kept))
 
-pub invariant_of-self : goal.invariant_of-self
-invariant_of-self c =
+pub invariant_of-self-then-publishes : goal.invariant_of-self-then-publishes
+invariant_of-self-then-publishes c =
     let rigged = c.wish_for.new.self in
     let a = wishing c.self.inside rigged c.args.wishes.now c.wish_for.ensures in
     let kept : IsKept a = wishing_kept c.self.inside rigged c.args.wishes.now c.wish_for.ensures c.self.invariant in
@@ -159,5 +159,5 @@ returns-clause-ran c =
 pub returns-in-Some-clause-stays : goal.returns-in-Some-clause-stays
 returns-in-Some-clause-stays c = wishing_is c.self.inside c.wish_for.new.self c.args.wishes.now c.wish_for.ensures ∙ c.self.view_is
 
-pub invariant_of-self-in-Some : goal.invariant_of-self-in-Some
-invariant_of-self-in-Some c = wishing_kept c.self.inside c.wish_for.new.self c.args.wishes.now c.wish_for.ensures c.self.invariant
+pub invariant_of-self : goal.invariant_of-self
+invariant_of-self c = wishing_kept c.self.inside c.wish_for.new.self c.args.wishes.now c.wish_for.ensures c.self.invariant
