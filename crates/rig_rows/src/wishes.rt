@@ -50,7 +50,7 @@ fn ties_are_wished_for(rt: HostRuntime) -> Result<(), Fail> {
         level: false,
     };
     let mut rig = BoardRig::new(parts, words);
-    rig.wish_for(CpuSet::of_bits(0b101));
+    rig.wish_for(&[CpuSet::of_bits(0b101)]);
     assert_eq!(rt;
         send(&mut rig, shape.cpus, &message, None),
         Ok(delivered(0b100))
