@@ -1,5 +1,5 @@
 //! The benches: what is set up once, and what a round asks.
-ghost use Rattle.std.specs.Prelude.{◌≤◌};
+ghost use Rattle.std.specs.Prelude.{◌≡◌, ◌≤◌, IfOk};
 
 use board_step::{Board, OpenError};
 use irq_base::{Call, Caller, Events, Row, Rows, Shape};
