@@ -52,20 +52,22 @@ pub record HasInHand (shape : Shape) (known : List ℕ) (q : Parts) (v : Seen) :
 -- what is in hand is of the board that the seat's list leaves
 abbrev pub HandsAreOfTheBoard : Type 0
 HandsAreOfTheBoard =
-    (shape : Shape) (known : List ℕ) (q : Parts) (v : Seen) (b : Board) → HasInHand shape known q v → v.now ≡ Some b → IsOf shape known q b
+    (shape : Shape) (known : List ℕ) (q : Parts) (v : Seen) (b : Board) → HasInHand shape known q v → v.now ≡ Some b
+    → IsOf shape known q b
 
 -- ---- what a body did is entered
 
--- a body that made this reply and these events did so on every board of which its parts are; of the call that is made on the
--- board that the seat's list leaves the entry may be committed, and where it is, the parts left are those of the board after it
-pub record IsEntered (had : Front) (v : Seen) (caller : Caller) (call : Call) (q after : Parts) (reply : Reply) (before events : List Event) : Type 0 where
-  pub told : List Event
-  pub noted : events ≡ with_told before told
-  pub few : length told ≤ 560
-  pub leads : LeadsOn IsStep had v (entry_of caller call reply told)
-  pub reach : HoldsReach reach_at had v (entry_of caller call reply told)
-  pub agrees : (b c : Board) → v.now ≡ Some b → IsStep b (entry_of caller call reply told) c → Agrees after c
-  pub held : (p : Part) → is_some (part_in after p) ≡ is_some (part_in q p)
+module _ (had : Front) (v : Seen) (caller : Caller) (call : Call) where
+  -- a body that made this reply and these events did so on every board of which its parts are; of the call that is made on the
+  -- board that the seat's list leaves the entry may be committed, and where it is, the parts left are those of the board after it
+  pub record IsEntered (q after : Parts) (reply : Reply) (before events : List Event) : Type 0 where
+    pub told : List Event
+    pub noted : events ≡ with_told before told
+    pub few : length told ≤ 560
+    pub leads : LeadsOn IsStep had v (entry_of caller call reply told)
+    pub reach : HoldsReach reach_at had v (entry_of caller call reply told)
+    pub agrees : (b c : Board) → v.now ≡ Some b → IsStep b (entry_of caller call reply told) c → Agrees after c
+    pub held : (p : Part) → is_some (part_in after p) ≡ is_some (part_in q p)
 
 -- the seat's list leaves a board on which the call may be made
 pub record MayBeMade (v : Seen) (caller : Caller) (call : Call) : Type 0 where

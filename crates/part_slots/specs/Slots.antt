@@ -47,4 +47,6 @@ ioapic_slot b = slots.Ioapic (record { ioapic = ioapic_of b.ioapic; levels = b.i
 
 -- each part, in the order of turns
 abbrev pub slots_of : Board → List Slot
-slots_of b = registry_slot b ∷ slots.Counters b.counters ∷ slots.Tick b.tick ∷ pic_slot b ∷ ioapic_slot b ∷ map (λ (a : LocalApic). slots.Lapic a) b.lapics
+slots_of b =
+    registry_slot b ∷ slots.Counters b.counters ∷ slots.Tick b.tick ∷ pic_slot b
+    ∷ ioapic_slot b ∷ map (λ (a : LocalApic). slots.Lapic a) b.lapics
