@@ -1,0 +1,8 @@
+//! The checker: whether a transcript is one legal run of a script on the one-thread board, and where it is not.
+#![tactic(auto)]
+
+mod checking;
+mod verdict;
+
+pub use checking::check;
+pub use verdict::{Flaw, Verdict};
