@@ -1,5 +1,5 @@
 //! The benches: what is set up once, and what a round asks.
-ghost use Rattle.std.specs.Prelude.{◌≤◌};
+ghost use Rattle.std.specs.Prelude.{◌≡◌, ◌≤◌, IfOk};
 
 use board_step::{Board, OpenError};
 use irq_base::{Call, Caller, Events, Row, Rows, Shape};
@@ -33,8 +33,8 @@ impl Bench {
         }
     }
 
-    // How many of its calls a round asks.
-    fn calls(self) -> usize
+    /// How many of its calls a round asks.
+    pub fn calls(self) -> usize
         ensures { result ≤ 4 }
     {
         match self {
@@ -43,8 +43,8 @@ impl Bench {
         }
     }
 
-    // What a round asks, with a call more where it asks three.
-    fn round(self) -> [Call; 4] {
+    /// What a round asks, with a call more where it asks three.
+    pub fn round(self) -> [Call; 4] {
         match self {
             Bench::Message => [message(), Call::Ack, Call::Eoi, Call::Ack],
             Bench::PairLine => [line(1, true), Call::Ack, out(0x20, 0x20), line(1, false)],
@@ -162,8 +162,10 @@ fn ask_each(board: &mut Board, calls: &[Call], events: &mut Events) -> u64 {
     answered
 }
 
-/// Runs so many rounds on a board of one processor; how many calls were answered.
-pub fn run(alloc: Global, bench: Bench, rounds: u32) -> Result<u64, OpenError> {
+/// A board of one processor, set up for the benches.
+pub fn ready(alloc: Global) -> Result<Board, OpenError>
+    ensures { IfOk result (λ board. board.shape.cpus ≡ 1) }
+{
     let shape = Shape {
         cpus: 1,
         counters: 16,
@@ -172,12 +174,18 @@ pub fn run(alloc: Global, bench: Bench, rounds: u32) -> Result<u64, OpenError> {
         publications: 1 << 20,
     };
     let mut board = Board::power_on(alloc, &shape)?;
+    ask_each(&mut board, &set_up(alloc)?, &mut Events::new());
+    Ok(board)
+}
+
+/// Runs so many rounds on the board; how many calls were answered.
+pub fn run(board: &mut Board, bench: Bench, rounds: u32) -> u64 {
     let mut events = Events::new();
-    let mut answered = ask_each(&mut board, &set_up(alloc)?, &mut events);
+    let mut answered = 0u64;
     let round = bench.round();
     let calls = bench.calls();
     for _n in 0..rounds {
-        answered = answered.wrapping_add(ask_each(&mut board, &round[..calls], &mut events));
+        answered = answered.wrapping_add(ask_each(board, &round[..calls], &mut events));
     }
-    Ok(answered)
+    answered
 }

@@ -1,10 +1,13 @@
-//! Rounds of calls on a board, to be counted: the words are the name of a bench and the number of rounds. Instructions a round are
-//! the difference of two runs with different rounds (`valgrind --tool=callgrind`) over the difference of the rounds.
+//! Rounds of calls on a board, to be counted: the words are the name of a bench and the number of rounds, and a third word, any,
+//! asks them on the parts of the board that a rig holds. Instructions a round are the difference of two runs with different rounds
+//! (`valgrind --tool=callgrind`) over the difference of the rounds.
 #![tactic(auto)]
 
 mod benches;
+mod rig_benches;
 
-use benches::{Bench, run};
+use benches::{Bench, ready, run};
+use rig_benches::run_on;
 use std::{env, io};
 
 // Runs the bench that is named, and prints how many calls were answered.
@@ -20,8 +23,12 @@ fn main(rt: HostRuntime) -> io::Result<()> {
     let Ok(rounds) = rounds.as_str().parse::<u32>() else {
         return Ok(());
     };
-    match run(rt.alloc(), bench, rounds) {
-        Ok(answered) => println!(rt; "{answered}"),
-        Err(_) => Ok(()),
-    }
+    let Ok(mut board) = ready(rt.alloc()) else {
+        return Ok(());
+    };
+    let answered = match words.next() {
+        None => run(&mut board, bench, rounds),
+        Some(_) => run_on(board, bench, rounds),
+    };
+    println!(rt; "{answered}")
 }

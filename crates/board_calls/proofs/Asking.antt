@@ -1,6 +1,6 @@
 -- What a processor is answered that asks for its next interrupt.
 use Rattle.std.proofs.Common.{◌≡◌, ℕ, Bool, true, false, if◌then◌else◌, [], slice_get, Some, None, Ok, Err, refl, sym, ap, subst, ◌∙◌}
-use Rattle.std.specs.Prelude.{Result, IfSome, option_map}
+use Rattle.std.specs.Prelude.{Result, IfSome, is_some, option_map}
 use Rattle.std.specs.declared.option.Option.{Option}
 use Rattle.irq_base.specs.declared.reply.Reply.{Reply}
 use Rattle.irq_base.specs.declared.reply.Reply.TheVariants.{Extint}
@@ -16,6 +16,7 @@ use Rattle.board_model.specs.Hand.{Parts, part_in}
 use Rattle.board_model.specs.Plan.{Plan, done, reply, ◌>>=◌}
 use Rattle.board_model.specs.Routing.{Routing}
 use Rattle.board_model.specs.Run.{Wishes, lacks, run_on}
+use Rattle.board_raise.specs.declared.lacks.Lacks.{Lacks}
 use Rattle.board_raise.specs.declared.parts.PicPart as pic
 use Rattle.board_raise.specs.declared.parts.Parts as code
 use Rattle.board_raise.specs.Fit.{PairFits, PinsFit}
@@ -78,9 +79,21 @@ Ok_is a b e = cc
 Err_not_Ok : {A B : Type 0} (a : A) (b : B) → ◌≡◌ {A = Result A B} (Err b) (Ok a) → ⊥
 Err_not_Ok a b e = cc
 
+Err_is : (l m : Lacks) → ◌≡◌ {A = Result Bool Lacks} (Err l) (Err m) → l ≡ m
+Err_is l m e = cc
+
 -- the pair in hand with the levels of its pins, if it is in hand
 abbrev pub pair_in : Option pic.PicPart → Option Pair
 pair_in o = option_map (λ (part : pic.PicPart). part.pair) o
+
+-- where the pair is lacking that a processor hears, it is not in hand
+pub pair_missing : (h : Bool) (p : code.Parts) (l : Lacks) → pair_heard h (pair_in p.pic) ≡ Err l → is_some (part_in (parts_of p) l.part) ≡ false
+pair_missing false p l e = absurd (Err_not_Ok false l (sym e))
+pair_missing true p l e = at p.pic refl e
+  where
+    at : (o : Option pic.PicPart) → p.pic ≡ o → pair_heard true (pair_in o) ≡ Err l → is_some (part_in (parts_of p) l.part) ≡ false
+    at None is named = subst (λ (m : Lacks). is_some (part_in (parts_of p) m.part) ≡ false) (Err_is (record { part = Pic }) l named) (ap (λ (o : Option pic.PicPart). is_some (option_map pic_of o)) is)
+    at (Some part) is told = absurd (Err_not_Ok (has_output part.pair) l (sym told))
 
 module _ (p : code.Parts) (n : ℕ) (apic : LocalApic) (ws : Wishes) where
   -- the pair gives, or the local APIC

@@ -1,6 +1,9 @@
 -- Pins that are marked are acknowledged, one after another.
-use Rattle.std.proofs.Common.{◌≡◌, ℕ, zero, suc, ◌+◌, ◌<◌, ◌≤◌, Bool, true, false, cond, List, [], ◌∷◌, ◌++◌, map, filter, get_or, Some, Ok, Err, refl, sym, ap, subst, ◌∙◌, arith}
+use Rattle.std.proofs.Common.{◌≡◌, ℕ, zero, suc, ◌+◌, ◌<◌, ◌≤◌, Bool, true, false, cond, List, [], ◌∷◌, ◌++◌, map, filter, Some, Ok, Err, refl, sym, ap, subst, ◌∙◌, arith}
 use Rattle.std.specs.Prelude.{Result, option_map}
+use Rattle.std.specs.Ordering.{nat_cmp}
+use Rattle.std.specs.FinSet as set
+use Rattle.irq_bits.specs.Members.{Numbers}
 use Rattle.std.proofs.lemmas.List.Elements.{filter-append}
 use Rattle.irq_base.specs.declared.event.Event.{Event}
 use Rattle.irq_base.specs.declared.event.Pin.{Pin}
@@ -40,12 +43,12 @@ same_below p q (suc k) same =
     ∙ sym (filter-append q (numbers_below k) (k ∷ []))
 
 -- the marked pins are those whose entry has the vector
-pub marks_are : (marks : List Bool) (chip : Chip) (vector : ℕ) → ((pin : ℕ) → pin < 24 → get_or marks pin false ≡ has_vector chip pin vector) → pins_marked marks ≡ pins_with chip vector
+pub marks_are : (marks : Numbers) (chip : Chip) (vector : ℕ) → ((pin : ℕ) → pin < 24 → set.contains marks pin ≡ has_vector chip pin vector) → pins_marked marks ≡ pins_with chip vector
 unfolding all_pins
-marks_are marks chip vector same = ap (map Ioapic) (same_below (λ pin. get_or marks pin false) (λ pin. has_vector chip pin vector) 24 same)
+marks_are marks chip vector same = ap (map Ioapic) (same_below (set.contains marks) (λ pin. has_vector chip pin vector) 24 same)
 
 -- those pins of the I/O APIC in hand
-pub pins_seen_ends : (p : code.Parts) (part : io.IoPart) → p.ioapic ≡ Some part → (marks : List Bool) (vector : ℕ) → ((pin : ℕ) → pin < 24 → get_or marks pin false ≡ has_vector part.ioapic pin vector) → (ws : Wishes)
+pub pins_seen_ends : (p : code.Parts) (part : io.IoPart) → p.ioapic ≡ Some part → (marks : Numbers) (vector : ℕ) → ((pin : ℕ) → pin < 24 → set.contains marks pin ≡ has_vector part.ioapic pin vector) → (ws : Wishes)
     → EndsWith (pins_marked marks) [] [] (parts_of p) ws (run_on (pins_seen vector) (parts_of p) ws)
 pins_seen_ends p part there marks vector same ws =
     subst (EndsWith (pins_marked marks) [] [] (parts_of p) ws)
@@ -54,34 +57,45 @@ pins_seen_ends p part there marks vector same ws =
 
 -- ---- the marked pins from one on
 
-abbrev pub marked_in : List Bool → List ℕ → List Pin
-marked_in marks ns = map Ioapic (filter (λ pin. get_or marks pin false) ns)
+abbrev pub marked_in : Numbers → List ℕ → List Pin
+marked_in marks ns = map Ioapic (filter (set.contains marks) ns)
 
-abbrev pub marked_from : List Bool → ℕ → List Pin
+abbrev pub marked_from : Numbers → ℕ → List Pin
 marked_from marks pin = marked_in marks (numbers_between pin 24)
 
-module _ (marks : List Bool) where
+module _ (marks : Numbers) where
   from_first : marked_from marks 0 ≡ pins_marked marks
   unfolding all_pins
   from_first = ap (marked_in marks) (between_below 24)
 
   module _ (pin : ℕ) where
-    from_marked : pin < 24 → get_or marks pin false ≡ true → marked_from marks pin ≡ Ioapic pin ∷ marked_from marks (pin + 1)
+    from_marked : pin < 24 → set.contains marks pin ≡ true → marked_from marks pin ≡ Ioapic pin ∷ marked_from marks (pin + 1)
     from_marked below h =
         ap (marked_in marks) (between_next pin 24 below)
-        ∙ ap (λ t. map Ioapic (cond t (pin ∷ filter (λ n. get_or marks n false) (numbers_between (pin + 1) 24)) (filter (λ n. get_or marks n false) (numbers_between (pin + 1) 24)))) h
+        ∙ ap (λ t. map Ioapic (cond t (pin ∷ filter (set.contains marks) (numbers_between (pin + 1) 24)) (filter (set.contains marks) (numbers_between (pin + 1) 24)))) h
 
-    from_other : pin < 24 → get_or marks pin false ≡ false → marked_from marks pin ≡ marked_from marks (pin + 1)
+    from_other : pin < 24 → set.contains marks pin ≡ false → marked_from marks pin ≡ marked_from marks (pin + 1)
     from_other below h =
         ap (marked_in marks) (between_next pin 24 below)
-        ∙ ap (λ t. map Ioapic (cond t (pin ∷ filter (λ n. get_or marks n false) (numbers_between (pin + 1) 24)) (filter (λ n. get_or marks n false) (numbers_between (pin + 1) 24)))) h
+        ∙ ap (λ t. map Ioapic (cond t (pin ∷ filter (set.contains marks) (numbers_between (pin + 1) 24)) (filter (set.contains marks) (numbers_between (pin + 1) 24)))) h
 
     from_last : 24 ≤ pin → marked_from marks pin ≡ []
     from_last past = ap (marked_in marks) (between_none pin 24 past)
 
+-- no pin is marked
+pub none_marked : (marks : Numbers) → marks ≡ set.empty → pins_marked marks ≡ []
+unfolding all_pins
+none_marked marks none = ap pins_marked none ∙ ap (map Ioapic) (none_passes 24)
+  where
+    none_passes : (k : ℕ) → filter (set.contains (set.empty {K = ℕ} {R = nat_cmp})) (numbers_below k) ≡ []
+    none_passes zero = refl
+    none_passes (suc k) =
+        filter-append (set.contains set.empty) (numbers_below k) (k ∷ [])
+        ∙ (λ i. none_passes k i ++ cond (set.contains-empty nat_cmp k i) (k ∷ []) [])
+
 -- ---- their acknowledges
 
-module _ (routing : Routing) (shape : Shape) (marks : List Bool) (start : Parts) (first : Wishes) (old : List Event) where
+module _ (routing : Routing) (shape : Shape) (marks : Numbers) (start : Parts) (first : Wishes) (old : List Event) where
   -- what the marked pins from one on add to these parts, all of them add to those at the start
   abbrev pub Leads : ℕ → Parts → Wishes → List Event → Type 0
   Leads pin q ws mid = (result : Result (Unit {0}) Lacks) (new : List Event) (after : Parts) (later : Wishes)
@@ -98,11 +112,11 @@ module _ (routing : Routing) (shape : Shape) (marks : List Bool) (start : Parts)
 
     module _ (below : pin < 24) where
       -- a pin that is not marked
-      pub leads_other : get_or marks pin false ≡ false → Leads (pin + 1) q ws mid
+      pub leads_other : set.contains marks pin ≡ false → Leads (pin + 1) q ws mid
       leads_other other result new after later h =
           so_far result new after later (subst (λ (l : List Pin). Adds result mid new after later (run_on (acknowledge_each routing shape l) q ws)) (sym (from_other marks pin below other)) h)
 
-      module _ (marked : get_or marks pin false ≡ true) where
+      module _ (marked : set.contains marks pin ≡ true) where
         -- a pin that is acknowledged
         pub leads_marked : (next : List Event) (r : Parts) (vs : Wishes) → Adds (Ok tt) mid next r vs (run_on (acknowledge routing shape (Ioapic pin)) q ws) → Leads (pin + 1) r vs next
         leads_marked next r vs one result new after later h =

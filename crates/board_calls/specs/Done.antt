@@ -1,5 +1,5 @@
 -- What a call in code is to its plan, on the parts in hand (this board's own).
-use Rattle.std.specs.Prelude.{◌≡◌, ◌+◌, ◌^◌, ◌≤◌, [], ◌∷◌, is_some, IfSome, None, Result, Ok, Err}
+use Rattle.std.specs.Prelude.{◌≡◌, ◌+◌, ◌^◌, ◌≤◌, [], ◌∷◌, is_some, IfSome, IfErr, false, None, Result, Ok, Err}
 use Rattle.irq_base.specs.declared.reply.Reply.{Reply}
 use Rattle.irq_base.specs.declared.shape.Part.{Part}
 use Rattle.irq_base.specs.declared.shape.Shape.{Shape}
@@ -20,6 +20,10 @@ IsReplied (Err l) after later o = StopsAt l.part o
 -- from these parts and wishes a call did what its plan does on them
 abbrev pub Replies : Plan (Unit {0}) → code.Parts → Wishes → Result Reply Lacks → code.Parts → Wishes → Type 0
 Replies plan old wishes result new later = IsReplied result (parts_of new) later (run_on plan (parts_of old) wishes)
+
+-- a call that lacks a part names one that is not in hand
+abbrev pub IsMissing : {A : Type 0} → Result A Lacks → code.Parts → Type 0
+IsMissing result parts = IfErr result (λ l. is_some (part_in (parts_of parts) l.part) ≡ false)
 
 -- the same parts are in hand
 abbrev pub SameInHand : code.Parts → code.Parts → Type 0

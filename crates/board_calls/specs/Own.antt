@@ -1,6 +1,8 @@
 -- The first steps of what a processor does with its own local APIC, each as a plan that ends with what the rest needs.
-use Rattle.std.specs.Prelude.{ℕ, Bool, true, false, nat_eq, if◌then◌else◌, List, map, filter, get_or, Result, Ok, Err, Some, None}
+use Rattle.std.specs.Prelude.{ℕ, Bool, true, false, nat_eq, if◌then◌else◌, List, map, filter, Result, Ok, Err, Some, None}
 use Rattle.std.specs.declared.option.Option.{Option}
+use Rattle.std.specs.FinSet as set
+use Rattle.irq_bits.specs.Members.{Numbers}
 use Rattle.irq_base.specs.declared.event.Pin.{Pin}
 use Rattle.irq_base.specs.declared.event.Pin.TheVariants as pins
 use Rattle.irq_base.specs.declared.reply.Reply.{Reply}
@@ -42,8 +44,8 @@ storing n offset len value = do
 -- ---- a vector ends
 
 -- the pins of the I/O APIC that are marked, in order
-abbrev pub pins_marked : List Bool → List Pin
-pins_marked marks = map pins.Ioapic (filter (λ pin. get_or marks pin false) all_pins)
+abbrev pub pins_marked : Numbers → List Pin
+pins_marked marks = map pins.Ioapic (filter (set.contains marks) all_pins)
 
 -- the pins of the I/O APIC whose entry has the vector
 abbrev pub pins_seen : ℕ → Plan (List Pin)

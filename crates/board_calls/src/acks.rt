@@ -12,7 +12,7 @@ ghost use Rattle.board_ack.specs.Acknowledge.{acknowledge_each};
 ghost use Rattle.board_ack.specs.OnHand.{Adds};
 ghost use Rattle.board_calls.specs.Processors.{pic_pin, cycle_pins};
 ghost use Rattle.board_calls.specs.Accessed.{cycling, cycle_answered};
-ghost use Rattle.board_calls.specs.Done.{SameInHand, FitsShape};
+ghost use Rattle.board_calls.specs.Done.{IsMissing, SameInHand, FitsShape};
 ghost use Rattle.board_calls.specs.Told.{TellsOn};
 
 use board_ack::ack_pin;
@@ -30,6 +30,7 @@ pub fn ack_pic<R: Rig>(
     requires pin { IfSome pin (λ p. p < 16) }
     requires fits { FitsShape shape.now (R.held rig.old) }
     ensures does { R.astray rig.new ≡ false → Adds result events.old.items events.new.items (parts_of (R.held rig.new)) (R.wishes rig.new) (run_on (acknowledge_each (routing_of_words (R.published rig.old)) shape.now (pic_pin pin)) (parts_of (R.held rig.old)) (R.wishes rig.old)) }
+    ensures missing { IsMissing result (R.held rig.old) }
     ensures held { SameInHand (R.held rig.old) (R.held rig.new) }
     ensures fits { FitsShape shape.now (R.held rig.new) }
     ensures published { R.published rig.new ≡ R.published rig.old }
@@ -52,6 +53,7 @@ fn ack_pins<R: Rig>(
     requires pins { InRange pins }
     requires fits { FitsShape shape.now (R.held rig.old) }
     ensures does { R.astray rig.new ≡ false → Adds result events.old.items events.new.items (parts_of (R.held rig.new)) (R.wishes rig.new) (run_on (acknowledge_each (routing_of_words (R.published rig.old)) shape.now (cycle_pins pins)) (parts_of (R.held rig.old)) (R.wishes rig.old)) }
+    ensures missing { IsMissing result (R.held rig.old) }
     ensures held { SameInHand (R.held rig.old) (R.held rig.new) }
     ensures fits { FitsShape shape.now (R.held rig.new) }
     ensures published { R.published rig.new ≡ R.published rig.old }
@@ -71,6 +73,7 @@ fn ack_pins<R: Rig>(
 pub fn make_cycle<R: Rig>(rig: &mut R, shape: &Shape, events: &mut Events) -> Result<u8, Lacks>
     requires fits { FitsShape shape.now (R.held rig.old) }
     ensures does { (answer : ℕ → Reply) → R.astray rig.new ≡ false → TellsOn (λ vector. answer vector ∷ []) result events.old.items events.new.items (parts_of (R.held rig.new)) (R.wishes rig.new) (run_on (cycle_answered (routing_of_words (R.published rig.old)) shape.now answer) (parts_of (R.held rig.old)) (R.wishes rig.old)) }
+    ensures missing { IsMissing result (R.held rig.old) }
     ensures held { SameInHand (R.held rig.old) (R.held rig.new) }
     ensures fits { FitsShape shape.now (R.held rig.new) }
     ensures published { R.published rig.new ≡ R.published rig.old }
@@ -92,6 +95,7 @@ pub fn make_cycle<R: Rig>(rig: &mut R, shape: &Shape, events: &mut Events) -> Re
 fn cycle(parts: &mut Parts) -> Result<(u8, AckedPins), Lacks>
     requires pins { PinsFit (chips_of parts.old) }
     ensures does { (ws : Wishes) → DoesQuietly (λ gave. gave) result (parts_of parts.new) ws (run_on cycling (parts_of parts.old) ws) }
+    ensures missing { IsMissing result parts.old }
     ensures in_range { IfOk result (λ gave. InRange gave.1) }
     ensures held { SameInHand parts.old parts.new }
     ensures fits { (shape : Sizes) → FitsShape shape parts.old → FitsShape shape parts.new }

@@ -8,7 +8,7 @@ ghost use Rattle.board_raise.specs.Fit.{PinsFit};
 ghost use Rattle.board_raise.specs.InHand.{parts_of, chips_of};
 ghost use Rattle.board_raise.specs.Shown.{DoesQuietly};
 ghost use Rattle.board_calls.specs.Processors.{next_interrupt, given_reply, hears_pair, lets_through};
-ghost use Rattle.board_calls.specs.Done.{SameInHand, FitsShape};
+ghost use Rattle.board_calls.specs.Done.{IsMissing, SameInHand, FitsShape};
 ghost use Rattle.board_calls.specs.Told.{TellsOn};
 ghost use Rattle.board_calls.specs.Own.{answering, pair_heard};
 
@@ -29,6 +29,7 @@ pub fn next_interrupt<R: Rig>(
     requires cpu { n < shape.now.cpus }
     requires fits { FitsShape shape.now (R.held rig.old) }
     ensures does { R.astray rig.new ≡ false → TellsOn (λ reply. reply ∷ []) result events.old.items events.new.items (parts_of (R.held rig.new)) (R.wishes rig.new) (run_on (next_interrupt (routing_of_words (R.published rig.old)) shape.now n) (parts_of (R.held rig.old)) (R.wishes rig.old)) }
+    ensures missing { IsMissing result (R.held rig.old) }
     ensures held { SameInHand (R.held rig.old) (R.held rig.new) }
     ensures fits { FitsShape shape.now (R.held rig.new) }
     ensures published { R.published rig.new ≡ R.published rig.old }
@@ -50,6 +51,7 @@ fn answer_own(parts: &mut Parts, n: u16) -> Result<Option<Reply>, Lacks>
     requires place { n < length parts.old.lapics }
     requires pins { PinsFit (chips_of parts.old) }
     ensures does { (ws : Wishes) → DoesQuietly (λ answer. answer) result (parts_of parts.new) ws (run_on (answering n) (parts_of parts.old) ws) }
+    ensures missing { IsMissing result parts.old }
     ensures held { SameInHand parts.old parts.new }
     ensures fits { (shape : Sizes) → FitsShape shape parts.old → FitsShape shape parts.new }
 {

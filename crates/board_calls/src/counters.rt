@@ -3,7 +3,7 @@ ghost use Rattle.std.specs.Prelude.{◌≡◌, ◌<◌, ◌-◌, ◌^◌, length
 ghost use Rattle.irq_base.specs.declared.shape.Shape.{Shape};
 ghost use Rattle.board_model.specs.Run.{Wishes};
 ghost use Rattle.board_calls.specs.Registrations.{count_written, take};
-ghost use Rattle.board_calls.specs.Done.{Replies, SameInHand, FitsShape};
+ghost use Rattle.board_calls.specs.Done.{Replies, IsMissing, SameInHand, FitsShape};
 
 use board_raise::{Lacks, Parts};
 use irq_base::{Part, Refusal, Reply};
@@ -13,6 +13,7 @@ use irq_base::{Part, Refusal, Reply};
 pub fn take(parts: &mut Parts, counter: u16) -> Result<Reply, Lacks>
     requires { IfSome parts.old.counters (λ counts. counter < length counts) }
     ensures does { (ws : Wishes) → Replies (take counter) parts.old ws result parts.new ws }
+    ensures missing { IsMissing result parts.old }
     ensures held { SameInHand parts.old parts.new }
     ensures fits { (shape : Shape) → FitsShape shape parts.old → FitsShape shape parts.new }
 {
@@ -33,6 +34,7 @@ pub fn add(parts: &mut Parts, counter: u16, n: u64) -> Result<Reply, Lacks>
     requires counter { IfSome parts.old.counters (λ counts. counter < length counts) }
     requires count { n < 2 ^ 64 - 1 }
     ensures does { (ws : Wishes) → Replies (count_written counter n) parts.old ws result parts.new ws }
+    ensures missing { IsMissing result parts.old }
     ensures held { SameInHand parts.old parts.new }
     ensures fits { (shape : Shape) → FitsShape shape parts.old → FitsShape shape parts.new }
 {

@@ -6,7 +6,7 @@ ghost use Rattle.board_model.specs.Run.{run_on};
 ghost use Rattle.board_raise.specs.InHand.{parts_of};
 ghost use Rattle.board_calls.specs.Calls.{io_row, plan_in_range};
 ghost use Rattle.board_calls.specs.Refusals.{range_reasons};
-ghost use Rattle.board_calls.specs.Done.{Replies, SameInHand, FitsShape, FitsButTick};
+ghost use Rattle.board_calls.specs.Done.{Replies, IsMissing, SameInHand, FitsShape, FitsButTick};
 ghost use Rattle.board_calls.specs.Families.{is_of_device, is_of_ticks, is_quiet_registration, is_registration};
 ghost use Rattle.board_calls.specs.Told.{TellsOn};
 
@@ -24,14 +24,15 @@ use irq_base::{Call, Events, Reply, Shape, Space};
 /// written or read (eventfd(2)). The call is one that `refused_by_range` does not refuse, and the parts in hand fit the shape.
 ///
 /// The reply is that of the call's plan on the parts in hand, by the published words for which the rig stands, and the parts
-/// and the wishes are left as that leaves them; no event is told. `Lacks` names the part that the plan lacks, and then nothing
-/// is promised of the parts' values. Where the rig is astray, the reply may be another. The same parts are in hand after the
-/// call as before it, and they fit the shape.
+/// and the wishes are left as that leaves them; no event is told. `Lacks` names a part that is not in hand, the one that the
+/// plan lacks, and then nothing is promised of the parts' values. Where the rig is astray, the reply may be another; a part that
+/// is named is not in hand there either. The same parts are in hand after the call as before it, and they fit the shape.
 pub fn device_call<R: Rig>(rig: &mut R, shape: &Shape, call: &Call) -> Result<Reply, Lacks>
     requires kind { IsTrue (is_of_device call.now) }
     requires range { first_of (range_reasons shape.now call.now) ≡ None }
     requires fits { FitsShape shape.now (R.held rig.old) }
     ensures does { (n : ℕ) → R.astray rig.new ≡ false → Replies (plan_in_range (routing_of_words (R.published rig.old)) shape.now n call.now) (R.held rig.old) (R.wishes rig.old) result (R.held rig.new) (R.wishes rig.new) }
+    ensures missing { IsMissing result (R.held rig.old) }
     ensures held { SameInHand (R.held rig.old) (R.held rig.new) }
     ensures fits { FitsShape shape.now (R.held rig.new) }
     ensures published { R.published rig.new ≡ R.published rig.old }
@@ -61,6 +62,7 @@ pub fn tick_call<R: Rig>(rig: &mut R, shape: &Shape, call: &Call) -> Result<Repl
     requires kind { IsTrue (is_of_ticks call.now) }
     requires fits { FitsShape shape.now (R.held rig.old) }
     ensures does { (n : ℕ) → R.astray rig.new ≡ false → Replies (plan_in_range (routing_of_words (R.published rig.old)) shape.now n call.now) (R.held rig.old) (R.wishes rig.old) result (R.held rig.new) (R.wishes rig.new) }
+    ensures missing { IsMissing result (R.held rig.old) }
     ensures held { SameInHand (R.held rig.old) (R.held rig.new) }
     ensures fits { FitsButTick shape.now (R.held rig.new) }
     ensures published { R.published rig.new ≡ R.published rig.old }
@@ -90,6 +92,7 @@ pub fn registration<R: Rig>(
     requires range { first_of (range_reasons shape.now call.now) ≡ None }
     requires fits { FitsShape shape.now (R.held rig.old) }
     ensures does { (n : ℕ) → R.astray rig.new ≡ false → TellsOn (λ reply. reply ∷ []) result events.old.items events.new.items (parts_of (R.held rig.new)) (R.wishes rig.new) (run_on (plan_in_range (routing_of_words (R.published rig.old)) shape.now n call.now) (parts_of (R.held rig.old)) (R.wishes rig.old)) }
+    ensures missing { IsMissing result (R.held rig.old) }
     ensures held { SameInHand (R.held rig.old) (R.held rig.new) }
     ensures fits { FitsShape shape.now (R.held rig.new) }
     ensures published { R.published rig.new ≡ R.published rig.old }
@@ -112,6 +115,7 @@ fn quiet_registration<R: Rig>(rig: &mut R, shape: &Shape, call: &Call) -> Result
     requires range { first_of (range_reasons shape.now call.now) ≡ None }
     requires fits { FitsShape shape.now (R.held rig.old) }
     ensures does { (n : ℕ) → R.astray rig.new ≡ false → Replies (plan_in_range (routing_of_words (R.published rig.old)) shape.now n call.now) (R.held rig.old) (R.wishes rig.old) result (R.held rig.new) (R.wishes rig.new) }
+    ensures missing { IsMissing result (R.held rig.old) }
     ensures held { SameInHand (R.held rig.old) (R.held rig.new) }
     ensures fits { FitsShape shape.now (R.held rig.new) }
     ensures published { R.published rig.new ≡ R.published rig.old }

@@ -9,7 +9,7 @@ ghost use Rattle.board_raise.specs.InHand.{parts_of, chips_of};
 ghost use Rattle.board_calls.specs.Accesses.{store, load};
 ghost use Rattle.board_calls.specs.Calls.{plan_in_range};
 ghost use Rattle.board_calls.specs.Refusals.{range_reasons, does_fit};
-ghost use Rattle.board_calls.specs.Done.{Replies, SameInHand, FitsShape};
+ghost use Rattle.board_calls.specs.Done.{Replies, IsMissing, SameInHand, FitsShape};
 ghost use Rattle.board_calls.specs.Families.{is_access, is_of_interrupts};
 ghost use Rattle.board_calls.specs.Told.{TellsOn};
 
@@ -28,8 +28,9 @@ use irq_base::{Call, Events, Reply, Shape, Space};
 ///
 /// The reply is that of the call's plan on the parts in hand, by the published words for which the rig stands, and the parts
 /// and the wishes are left as that leaves them; its events stand after those that stood there, but for what finds no room.
-/// `Lacks` names the part that the plan lacks, and then nothing is promised of the parts' values. Where the rig is astray, the
-/// reply may be another. The same parts are in hand after the call as before it, and they fit the shape.
+/// `Lacks` names a part that is not in hand, the one that the plan lacks, and then nothing is promised of the parts' values.
+/// Where the rig is astray, the reply may be another; a part that is named is not in hand there either. The same parts are in
+/// hand after the call as before it, and they fit the shape.
 pub fn guest_access<R: Rig>(
     rig: &mut R,
     shape: &Shape,
@@ -42,6 +43,7 @@ pub fn guest_access<R: Rig>(
     requires processor { n < shape.now.cpus }
     requires fits { FitsShape shape.now (R.held rig.old) }
     ensures does { R.astray rig.new ≡ false → TellsOn (λ reply. reply ∷ []) result events.old.items events.new.items (parts_of (R.held rig.new)) (R.wishes rig.new) (run_on (plan_in_range (routing_of_words (R.published rig.old)) shape.now n call.now) (parts_of (R.held rig.old)) (R.wishes rig.old)) }
+    ensures missing { IsMissing result (R.held rig.old) }
     ensures held { SameInHand (R.held rig.old) (R.held rig.new) }
     ensures fits { FitsShape shape.now (R.held rig.new) }
     ensures published { R.published rig.new ≡ R.published rig.old }
@@ -75,6 +77,7 @@ fn store<R: Rig>(
     requires value { IsTrue (does_fit value len) }
     requires fits { FitsShape shape.now (R.held rig.old) }
     ensures does { R.astray rig.new ≡ false → TellsOn (λ reply. reply ∷ []) result events.old.items events.new.items (parts_of (R.held rig.new)) (R.wishes rig.new) (run_on (store (routing_of_words (R.published rig.old)) shape.now n address len value) (parts_of (R.held rig.old)) (R.wishes rig.old)) }
+    ensures missing { IsMissing result (R.held rig.old) }
     ensures held { SameInHand (R.held rig.old) (R.held rig.new) }
     ensures fits { FitsShape shape.now (R.held rig.new) }
     ensures published { R.published rig.new ≡ R.published rig.old }
@@ -103,6 +106,7 @@ fn load<R: Rig>(rig: &mut R, n: u16, address: u64, len: u8) -> Result<Reply, Lac
     requires place { n < length (R.held rig.old).lapics }
     requires pins { PinsFit (chips_of (R.held rig.old)) }
     ensures does { Replies (load n address len) (R.held rig.old) (R.wishes rig.old) result (R.held rig.new) (R.wishes rig.new) }
+    ensures missing { IsMissing result (R.held rig.old) }
     ensures held { SameInHand (R.held rig.old) (R.held rig.new) }
     ensures fits { (shape : Sizes) → FitsShape shape (R.held rig.old) → FitsShape shape (R.held rig.new) }
     ensures published { R.published rig.new ≡ R.published rig.old }
@@ -133,6 +137,7 @@ pub fn processor_call<R: Rig>(
     requires processor { n < shape.now.cpus }
     requires fits { FitsShape shape.now (R.held rig.old) }
     ensures does { R.astray rig.new ≡ false → TellsOn (λ reply. reply ∷ []) result events.old.items events.new.items (parts_of (R.held rig.new)) (R.wishes rig.new) (run_on (plan_in_range (routing_of_words (R.published rig.old)) shape.now n call.now) (parts_of (R.held rig.old)) (R.wishes rig.old)) }
+    ensures missing { IsMissing result (R.held rig.old) }
     ensures held { SameInHand (R.held rig.old) (R.held rig.new) }
     ensures fits { FitsShape shape.now (R.held rig.new) }
     ensures published { R.published rig.new ≡ R.published rig.old }

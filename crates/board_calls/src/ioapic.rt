@@ -9,7 +9,7 @@ ghost use Rattle.board_raise.specs.Shown.{DoesQuietly};
 ghost use Rattle.board_ack.specs.OnHand.{Adds};
 ghost use Rattle.board_calls.specs.Accesses.{resend_written, ioapic_store, ioapic_load};
 ghost use Rattle.board_calls.specs.Accessed.{storing, due_again};
-ghost use Rattle.board_calls.specs.Done.{Replies, SameInHand, FitsShape};
+ghost use Rattle.board_calls.specs.Done.{Replies, IsMissing, SameInHand, FitsShape};
 ghost use Rattle.board_calls.specs.Told.{TellsOn};
 
 use board_ack::resend;
@@ -30,6 +30,7 @@ pub fn ioapic_store<R: Rig>(
     requires value { value < 2 ^ (8 * len) }
     requires fits { FitsShape shape.now (R.held rig.old) }
     ensures does { TellsOn (λ reply. reply ∷ []) result events.old.items events.new.items (parts_of (R.held rig.new)) (R.wishes rig.new) (run_on (ioapic_store shape.now offset len value) (parts_of (R.held rig.old)) (R.wishes rig.old)) }
+    ensures missing { IsMissing result (R.held rig.old) }
     ensures held { SameInHand (R.held rig.old) (R.held rig.new) }
     ensures fits { FitsShape shape.now (R.held rig.new) }
     ensures published { R.published rig.new ≡ R.published rig.old }
@@ -49,7 +50,8 @@ pub fn ioapic_store<R: Rig>(
 /// A processor loads from the I/O APIC, at an offset from its first address: `Value`, which is 0 in another length than 4.
 pub fn ioapic_load(parts: &Parts, offset: u8, len: u8) -> Result<Reply, Lacks>
     requires { PinsFit (chips_of parts.now) }
-    ensures { (ws : Wishes) → Replies (ioapic_load offset len) parts.now ws result parts.now ws }
+    ensures does { (ws : Wishes) → Replies (ioapic_load offset len) parts.now ws result parts.now ws }
+    ensures missing { IsMissing result parts.now }
 {
     match &parts.ioapic {
         None => Err(Lacks { part: Part::Ioapic }),
@@ -70,6 +72,7 @@ fn resend_written<R: Rig>(
     requires pin { IfSome pin (λ p. p < 24) }
     requires fits { FitsShape shape.now (R.held rig.old) }
     ensures does { Adds result events.old.items events.new.items (parts_of (R.held rig.new)) (R.wishes rig.new) (run_on (resend_written shape.now pin) (parts_of (R.held rig.old)) (R.wishes rig.old)) }
+    ensures missing { IsMissing result (R.held rig.old) }
     ensures held { SameInHand (R.held rig.old) (R.held rig.new) }
     ensures fits { FitsShape shape.now (R.held rig.new) }
     ensures published { R.published rig.new ≡ R.published rig.old }
@@ -87,6 +90,7 @@ fn resend_due<R: Rig>(rig: &mut R, shape: &Shape, pin: u8, events: &mut Events) 
     requires pin { pin < 24 }
     requires fits { FitsShape shape.now (R.held rig.old) }
     ensures does { Adds result events.old.items events.new.items (parts_of (R.held rig.new)) (R.wishes rig.new) (run_on (resend_written shape.now (Some pin)) (parts_of (R.held rig.old)) (R.wishes rig.old)) }
+    ensures missing { IsMissing result (R.held rig.old) }
     ensures held { SameInHand (R.held rig.old) (R.held rig.new) }
     ensures fits { FitsShape shape.now (R.held rig.new) }
     ensures published { R.published rig.new ≡ R.published rig.old }
@@ -104,7 +108,8 @@ fn resend_due<R: Rig>(rig: &mut R, shape: &Shape, pin: u8, events: &mut Events) 
 fn due_again(parts: &Parts, pin: u8) -> Result<Option<Message>, Lacks>
     requires pin { pin < 24 }
     requires pins { PinsFit (chips_of parts.now) }
-    ensures { (ws : Wishes) → DoesQuietly (λ message. message) result (parts_of parts.now) ws (run_on (due_again pin) (parts_of parts.now) ws) }
+    ensures does { (ws : Wishes) → DoesQuietly (λ message. message) result (parts_of parts.now) ws (run_on (due_again pin) (parts_of parts.now) ws) }
+    ensures missing { IsMissing result parts.now }
 {
     match &parts.ioapic {
         None => Err(Lacks { part: Part::Ioapic }),
@@ -118,6 +123,7 @@ fn write(parts: &mut Parts, offset: u8, len: u8, value: u64) -> Result<Option<u8
     requires value { value < 2 ^ (8 * len) }
     requires pins { PinsFit (chips_of parts.old) }
     ensures does { (ws : Wishes) → DoesQuietly (λ pin. pin) result (parts_of parts.new) ws (run_on (storing offset len value) (parts_of parts.old) ws) }
+    ensures missing { IsMissing result parts.old }
     ensures in_range { IfOk result (λ pin. IfSome pin (λ p. p < 24)) }
     ensures held { SameInHand parts.old parts.new }
     ensures fits { (shape : Sizes) → FitsShape shape parts.old → FitsShape shape parts.new }

@@ -11,7 +11,7 @@ ghost use Rattle.board_raise.specs.InHand.{parts_of, chips_of, registry_of};
 ghost use Rattle.board_raise.specs.Shown.{DoesQuietly, Leaves};
 ghost use Rattle.board_calls.specs.Refusals.{assign_reasons, is_counter, has_resample, is_signalled};
 ghost use Rattle.board_calls.specs.Registrations.{assign, deassign, inject_count, release};
-ghost use Rattle.board_calls.specs.Done.{Replies, SameInHand, FitsShape};
+ghost use Rattle.board_calls.specs.Done.{Replies, IsMissing, SameInHand, FitsShape};
 ghost use Rattle.board_calls.specs.Told.{TellsOn};
 ghost use Rattle.board_calls.specs.Pieces.{adding, clashes, last_removed, removing};
 
@@ -37,6 +37,7 @@ pub fn assign<R: Rig>(
     requires resample { IfSome resample (λ c. c < shape.now.counters) }
     requires fits { FitsShape shape.now (R.held rig.old) }
     ensures does { R.astray rig.new ≡ false → TellsOn (λ reply. reply ∷ []) result events.old.items events.new.items (parts_of (R.held rig.new)) (R.wishes rig.new) (run_on (assign (routing_of_words (R.published rig.old)) shape.now trigger gsi resample) (parts_of (R.held rig.old)) (R.wishes rig.old)) }
+    ensures missing { IsMissing result (R.held rig.old) }
     ensures held { SameInHand (R.held rig.old) (R.held rig.new) }
     ensures fits { FitsShape shape.now (R.held rig.new) }
     ensures published { R.published rig.new ≡ R.published rig.old }
@@ -66,6 +67,7 @@ fn add(
     requires counter { IfSome parts.old.counters (λ counts. trigger < length counts) }
     requires gsi { gsi < 4096 }
     ensures does { (ws : Wishes) → DoesQuietly (λ found. found) result (parts_of parts.new) ws (run_on (adding trigger gsi resample) (parts_of parts.old) ws) }
+    ensures missing { IsMissing result parts.old }
     ensures held { SameInHand parts.old parts.new }
     ensures fits { (shape : Sizes) → trigger < shape.counters → IfSome resample (λ c. c < shape.counters) → FitsShape shape parts.old → FitsShape shape parts.new }
 {
@@ -153,6 +155,7 @@ fn inject_count<R: Rig>(
     requires gsi { gsi < 4096 }
     requires fits { FitsShape shape.now (R.held rig.old) }
     ensures does { R.astray rig.new ≡ false → TellsOn (λ _. []) result events.old.items events.new.items (parts_of (R.held rig.new)) (R.wishes rig.new) (run_on (inject_count (routing_of_words (R.published rig.old)) shape.now gsi resample true) (parts_of (R.held rig.old)) (R.wishes rig.old)) }
+    ensures missing { IsMissing result (R.held rig.old) }
     ensures held { SameInHand (R.held rig.old) (R.held rig.new) }
     ensures fits { FitsShape shape.now (R.held rig.new) }
     ensures published { R.published rig.new ≡ R.published rig.old }
@@ -172,6 +175,7 @@ pub fn deassign<R: Rig>(rig: &mut R, trigger: u16, gsi: u16) -> Result<Reply, La
     requires gsi { gsi < 4096 }
     requires pins { PinsFit (chips_of (R.held rig.old)) }
     ensures does { R.astray rig.new ≡ false → Replies (deassign (routing_of_words (R.published rig.old)) trigger gsi) (R.held rig.old) (R.wishes rig.old) result (R.held rig.new) (R.wishes rig.new) }
+    ensures missing { IsMissing result (R.held rig.old) }
     ensures held { SameInHand (R.held rig.old) (R.held rig.new) }
     ensures fits { (shape : Sizes) → FitsShape shape (R.held rig.old) → FitsShape shape (R.held rig.new) }
     ensures published { R.published rig.new ≡ R.published rig.old }
@@ -194,6 +198,7 @@ pub fn deassign<R: Rig>(rig: &mut R, trigger: u16, gsi: u16) -> Result<Reply, La
 #[tactic(auto, using(crate::proofs::InHand::in_hand_rules))]
 fn remove(parts: &mut Parts, trigger: u16, gsi: u16) -> Result<Option<bool>, Lacks>
     ensures does { (ws : Wishes) → DoesQuietly (λ last. last) result (parts_of parts.new) ws (run_on (removing trigger gsi) (parts_of parts.old) ws) }
+    ensures missing { IsMissing result parts.old }
     ensures held { SameInHand parts.old parts.new }
     ensures fits { (shape : Sizes) → FitsShape shape parts.old → FitsShape shape parts.new }
     ensures pins { chips_of parts.new ≡ chips_of parts.old }
@@ -223,6 +228,7 @@ fn release<R: Rig>(rig: &mut R, gsi: u16) -> Result<(), Lacks>
     requires gsi { gsi < 4096 }
     requires pins { PinsFit (chips_of (R.held rig.old)) }
     ensures does { R.astray rig.new ≡ false → Leaves result (parts_of (R.held rig.new)) (R.wishes rig.new) (run_on (release (routing_of_words (R.published rig.old)) gsi true) (parts_of (R.held rig.old)) (R.wishes rig.old)) }
+    ensures missing { IsMissing result (R.held rig.old) }
     ensures held { SameInHand (R.held rig.old) (R.held rig.new) }
     ensures fits { (shape : Sizes) → FitsShape shape (R.held rig.old) → FitsShape shape (R.held rig.new) }
     ensures published { R.published rig.new ≡ R.published rig.old }

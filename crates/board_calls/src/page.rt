@@ -8,7 +8,7 @@ ghost use Rattle.board_raise.specs.Shown.{DoesQuietly};
 ghost use Rattle.board_calls.specs.Accesses.{lapic_load, lapic_store, store_effects};
 ghost use Rattle.board_calls.specs.Refusals.{does_fit};
 ghost use Rattle.lapic.specs.declared.outcome.Effect.TheVariants.{Send};
-ghost use Rattle.board_calls.specs.Done.{Replies, SameInHand, FitsShape};
+ghost use Rattle.board_calls.specs.Done.{Replies, IsMissing, SameInHand, FitsShape};
 ghost use Rattle.board_calls.specs.Told.{TellsOn};
 ghost use Rattle.board_calls.specs.Own.{storing};
 
@@ -35,6 +35,7 @@ pub fn lapic_store<R: Rig>(
     requires value { IsTrue (does_fit value len) }
     requires fits { FitsShape shape.now (R.held rig.old) }
     ensures does { R.astray rig.new ≡ false → TellsOn (λ reply. reply ∷ []) result events.old.items events.new.items (parts_of (R.held rig.new)) (R.wishes rig.new) (run_on (lapic_store (routing_of_words (R.published rig.old)) shape.now n offset len value) (parts_of (R.held rig.old)) (R.wishes rig.old)) }
+    ensures missing { IsMissing result (R.held rig.old) }
     ensures held { SameInHand (R.held rig.old) (R.held rig.new) }
     ensures fits { FitsShape shape.now (R.held rig.new) }
     ensures published { R.published rig.new ≡ R.published rig.old }
@@ -56,6 +57,7 @@ fn store(parts: &mut Parts, n: u16, offset: u16, len: u8, value: u64) -> Result<
     requires place { n < length parts.old.lapics }
     requires value { IsTrue (does_fit value len) }
     ensures does { (ws : Wishes) → DoesQuietly (λ effect. effect) result (parts_of parts.new) ws (run_on (storing n offset len value) (parts_of parts.old) ws) }
+    ensures missing { IsMissing result parts.old }
     ensures held { SameInHand parts.old parts.new }
     ensures fits { (shape : Sizes) → FitsShape shape parts.old → FitsShape shape parts.new }
 {
@@ -80,6 +82,7 @@ fn bring_about<R: Rig>(
 ) -> Result<(), Lacks>
     requires { FitsShape shape.now (R.held rig.old) }
     ensures does { R.astray rig.new ≡ false → TellsOn (λ _. []) result events.old.items events.new.items (parts_of (R.held rig.new)) (R.wishes rig.new) (run_on (store_effects (routing_of_words (R.published rig.old)) shape.now n effect.now) (parts_of (R.held rig.old)) (R.wishes rig.old)) }
+    ensures missing { IsMissing result (R.held rig.old) }
     ensures held { SameInHand (R.held rig.old) (R.held rig.new) }
     ensures fits { FitsShape shape.now (R.held rig.new) }
     ensures published { R.published rig.new ≡ R.published rig.old }
@@ -103,6 +106,7 @@ fn send_ipi<R: Rig>(
 ) -> Result<(), Lacks>
     requires { FitsShape shape.now (R.held rig.old) }
     ensures does { TellsOn (λ _. []) result events.old.items events.new.items (parts_of (R.held rig.new)) (R.wishes rig.new) (run_on (store_effects (routing_of_words (R.published rig.old)) shape.now n (Send ipi.now)) (parts_of (R.held rig.old)) (R.wishes rig.old)) }
+    ensures missing { IsMissing result (R.held rig.old) }
     ensures held { SameInHand (R.held rig.old) (R.held rig.new) }
     ensures fits { FitsShape shape.now (R.held rig.new) }
     ensures published { R.published rig.new ≡ R.published rig.old }
@@ -122,6 +126,7 @@ fn send_ipi<R: Rig>(
 pub fn lapic_load<R: Rig>(rig: &mut R, n: u16, offset: u16, len: u8) -> Result<Reply, Lacks>
     requires { n < length (R.held rig.old).lapics }
     ensures does { Replies (lapic_load n offset len) (R.held rig.old) (R.wishes rig.old) result (R.held rig.new) (R.wishes rig.new) }
+    ensures missing { IsMissing result (R.held rig.old) }
     ensures held { SameInHand (R.held rig.old) (R.held rig.new) }
     ensures fits { (shape : Sizes) → FitsShape shape (R.held rig.old) → FitsShape shape (R.held rig.new) }
     ensures published { R.published rig.new ≡ R.published rig.old }
@@ -134,7 +139,8 @@ pub fn lapic_load<R: Rig>(rig: &mut R, n: u16, offset: u16, len: u8) -> Result<R
 // What the local APIC of processor n reads, which is 0 in another length than 4.
 fn load(parts: &Parts, n: u16, offset: u16, len: u8) -> Result<Reply, Lacks>
     requires { n < length parts.now.lapics }
-    ensures { (ws : Wishes) → Replies (lapic_load n offset len) parts.now ws result parts.now ws }
+    ensures does { (ws : Wishes) → Replies (lapic_load n offset len) parts.now ws result parts.now ws }
+    ensures missing { IsMissing result parts.now }
 {
     match parts.lapics.at(n) {
         None => Err(Lacks {

@@ -10,7 +10,7 @@ ghost use Rattle.board_raise.specs.Shown.{DoesQuietly};
 ghost use Rattle.board_calls.specs.Accesses.{pair_write, pair_read, port_out, port_in};
 ghost use Rattle.board_calls.specs.Processors.{inta};
 ghost use Rattle.board_calls.specs.Accessed.{writing, reading};
-ghost use Rattle.board_calls.specs.Done.{SameInHand, FitsShape};
+ghost use Rattle.board_calls.specs.Done.{IsMissing, SameInHand, FitsShape};
 ghost use Rattle.board_calls.specs.Told.{TellsOn};
 
 use crate::acks::{ack_pic, make_cycle};
@@ -33,6 +33,7 @@ pub fn port_out<R: Rig>(
     requires value { value < 2 ^ (8 * len) }
     requires fits { FitsShape shape.now (R.held rig.old) }
     ensures does { R.astray rig.new ≡ false → TellsOn (λ reply. reply ∷ []) result events.old.items events.new.items (parts_of (R.held rig.new)) (R.wishes rig.new) (run_on (port_out (routing_of_words (R.published rig.old)) shape.now port len value) (parts_of (R.held rig.old)) (R.wishes rig.old)) }
+    ensures missing { IsMissing result (R.held rig.old) }
     ensures held { SameInHand (R.held rig.old) (R.held rig.new) }
     ensures fits { FitsShape shape.now (R.held rig.new) }
     ensures published { R.published rig.new ≡ R.published rig.old }
@@ -65,6 +66,7 @@ pub fn port_in<R: Rig>(
 ) -> Result<Reply, Lacks>
     requires fits { FitsShape shape.now (R.held rig.old) }
     ensures does { R.astray rig.new ≡ false → TellsOn (λ reply. reply ∷ []) result events.old.items events.new.items (parts_of (R.held rig.new)) (R.wishes rig.new) (run_on (port_in (routing_of_words (R.published rig.old)) shape.now port len) (parts_of (R.held rig.old)) (R.wishes rig.old)) }
+    ensures missing { IsMissing result (R.held rig.old) }
     ensures held { SameInHand (R.held rig.old) (R.held rig.new) }
     ensures fits { FitsShape shape.now (R.held rig.new) }
     ensures published { R.published rig.new ≡ R.published rig.old }
@@ -83,6 +85,7 @@ pub fn port_in<R: Rig>(
 pub fn inta<R: Rig>(rig: &mut R, shape: &Shape, events: &mut Events) -> Result<Reply, Lacks>
     requires fits { FitsShape shape.now (R.held rig.old) }
     ensures does { R.astray rig.new ≡ false → TellsOn (λ reply. reply ∷ []) result events.old.items events.new.items (parts_of (R.held rig.new)) (R.wishes rig.new) (run_on (inta (routing_of_words (R.published rig.old)) shape.now) (parts_of (R.held rig.old)) (R.wishes rig.old)) }
+    ensures missing { IsMissing result (R.held rig.old) }
     ensures held { SameInHand (R.held rig.old) (R.held rig.new) }
     ensures fits { FitsShape shape.now (R.held rig.new) }
     ensures published { R.published rig.new ≡ R.published rig.old }
@@ -108,6 +111,7 @@ fn write_pair<R: Rig>(
     requires value { value < 2 ^ (8 * len) }
     requires fits { FitsShape shape.now (R.held rig.old) }
     ensures does { R.astray rig.new ≡ false → TellsOn (λ reply. reply ∷ []) result events.old.items events.new.items (parts_of (R.held rig.new)) (R.wishes rig.new) (run_on (pair_write (routing_of_words (R.published rig.old)) shape.now port len value) (parts_of (R.held rig.old)) (R.wishes rig.old)) }
+    ensures missing { IsMissing result (R.held rig.old) }
     ensures held { SameInHand (R.held rig.old) (R.held rig.new) }
     ensures fits { FitsShape shape.now (R.held rig.new) }
     ensures published { R.published rig.new ≡ R.published rig.old }
@@ -135,6 +139,7 @@ fn read_pair<R: Rig>(
     requires port { IsTrue (is_port port) }
     requires fits { FitsShape shape.now (R.held rig.old) }
     ensures does { R.astray rig.new ≡ false → TellsOn (λ reply. reply ∷ []) result events.old.items events.new.items (parts_of (R.held rig.new)) (R.wishes rig.new) (run_on (pair_read (routing_of_words (R.published rig.old)) shape.now port len) (parts_of (R.held rig.old)) (R.wishes rig.old)) }
+    ensures missing { IsMissing result (R.held rig.old) }
     ensures held { SameInHand (R.held rig.old) (R.held rig.new) }
     ensures fits { FitsShape shape.now (R.held rig.new) }
     ensures published { R.published rig.new ≡ R.published rig.old }
@@ -158,6 +163,7 @@ fn write(parts: &mut Parts, port: u16, len: u8, value: u32) -> Result<Option<u8>
     requires value { value < 2 ^ (8 * len) }
     requires pins { PinsFit (chips_of parts.old) }
     ensures does { (ws : Wishes) → DoesQuietly (λ pin. pin) result (parts_of parts.new) ws (run_on (writing port len value) (parts_of parts.old) ws) }
+    ensures missing { IsMissing result parts.old }
     ensures in_range { IfOk result (λ pin. IfSome pin (λ p. p < 16)) }
     ensures held { SameInHand parts.old parts.new }
     ensures fits { (shape : Sizes) → FitsShape shape parts.old → FitsShape shape parts.new }
@@ -180,6 +186,7 @@ fn read(parts: &mut Parts, port: u16, len: u8) -> Result<(u8, Option<u8>), Lacks
     requires port { IsTrue (is_port port) }
     requires pins { PinsFit (chips_of parts.old) }
     ensures does { (ws : Wishes) → DoesQuietly (λ gave. gave) result (parts_of parts.new) ws (run_on (reading port len) (parts_of parts.old) ws) }
+    ensures missing { IsMissing result parts.old }
     ensures in_range { IfOk result (λ gave. IfSome gave.1 (λ p. p < 16)) }
     ensures held { SameInHand parts.old parts.new }
     ensures fits { (shape : Sizes) → FitsShape shape parts.old → FitsShape shape parts.new }

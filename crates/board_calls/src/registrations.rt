@@ -11,7 +11,7 @@ ghost use Rattle.board_model.specs.Run.{Wishes};
 ghost use Rattle.board_raise.specs.InHand.{registry_of};
 ghost use Rattle.board_calls.specs.Refusals.{watch_reasons};
 ghost use Rattle.board_calls.specs.Registrations.{attach, detach, watch, unwatch};
-ghost use Rattle.board_calls.specs.Done.{Replies, SameInHand, FitsShape};
+ghost use Rattle.board_calls.specs.Done.{Replies, IsMissing, SameInHand, FitsShape};
 
 use board_raise::{Lacks, Parts, RegistryPart};
 use ioevent_set::IoRow;
@@ -30,6 +30,7 @@ pub fn is_trigger(irqfds: &Irqfds, counter: u16) -> bool
 #[tactic(auto, using(crate::proofs::InHand::in_hand_rules))]
 pub fn attach(parts: &mut Parts, row: IoRow) -> Result<Reply, Lacks>
     ensures does { (ws : Wishes) → Replies (attach row) parts.old ws result parts.new ws }
+    ensures missing { IsMissing result parts.old }
     ensures held { SameInHand parts.old parts.new }
     ensures fits { (shape : Shape) → row.counter < shape.counters → FitsShape shape parts.old → FitsShape shape parts.new }
 {
@@ -48,6 +49,7 @@ pub fn attach(parts: &mut Parts, row: IoRow) -> Result<Reply, Lacks>
 #[tactic(auto, using(crate::proofs::InHand::in_hand_rules))]
 pub fn detach(parts: &mut Parts, row: &IoRow) -> Result<Reply, Lacks>
     ensures does { (ws : Wishes) → Replies (detach row.now) parts.old ws result parts.new ws }
+    ensures missing { IsMissing result parts.old }
     ensures held { SameInHand parts.old parts.new }
     ensures fits { (shape : Shape) → FitsShape shape parts.old → FitsShape shape parts.new }
 {
@@ -68,6 +70,7 @@ pub fn detach(parts: &mut Parts, row: &IoRow) -> Result<Reply, Lacks>
 pub fn watch(parts: &mut Parts, counter: u16, gsi: u16) -> Result<Reply, Lacks>
     requires { gsi < 4096 }
     ensures does { (ws : Wishes) → Replies (watch counter gsi) parts.old ws result parts.new ws }
+    ensures missing { IsMissing result parts.old }
     ensures held { SameInHand parts.old parts.new }
     ensures fits { (shape : Shape) → counter < shape.counters → FitsShape shape parts.old → FitsShape shape parts.new }
 {
@@ -86,6 +89,7 @@ pub fn watch(parts: &mut Parts, counter: u16, gsi: u16) -> Result<Reply, Lacks>
 #[tactic(auto, using(crate::proofs::InHand::in_hand_rules))]
 pub fn unwatch(parts: &mut Parts, counter: u16, gsi: u16) -> Result<Reply, Lacks>
     ensures does { (ws : Wishes) → Replies (unwatch counter gsi) parts.old ws result parts.new ws }
+    ensures missing { IsMissing result parts.old }
     ensures held { SameInHand parts.old parts.new }
     ensures fits { (shape : Shape) → FitsShape shape parts.old → FitsShape shape parts.new }
 {

@@ -9,7 +9,7 @@ ghost use Rattle.board_model.specs.Run.{Wishes};
 ghost use Rattle.board_raise.specs.Fit.{PairFits, IoapicFits};
 ghost use Rattle.board_raise.specs.InHand.{pic_of, ioapic_of};
 ghost use Rattle.board_calls.specs.Registrations.{is_same_gsi, reroute};
-ghost use Rattle.board_calls.specs.Done.{Replies, SameInHand, FitsShape};
+ghost use Rattle.board_calls.specs.Done.{Replies, IsMissing, SameInHand, FitsShape};
 ghost use Rattle.board_calls.specs.Moved.{AreGsis, kept_by, without_pin};
 
 use board_raise::{IoPart, Lacks, Parts, PicPart, RegistryPart};
@@ -28,6 +28,7 @@ struct PinGsis {
 pub fn reroute(parts: &mut Parts, rows: &Rows) -> Result<Reply, Lacks>
     requires { refusal_of rows.now ≡ None }
     ensures does { (ws : Wishes) → Replies (reroute rows.now) parts.old ws result parts.new ws }
+    ensures missing { IsMissing result parts.old }
     ensures held { SameInHand parts.old parts.new }
     ensures fits { (shape : Shape) → FitsShape shape parts.old → FitsShape shape parts.new }
 {

@@ -11,7 +11,7 @@ ghost use Rattle.board_raise.specs.Shown.{DoesQuietly, Leaves};
 ghost use Rattle.board_ack.specs.OnHand.{Adds};
 ghost use Rattle.board_calls.specs.Accesses.{ring, rung, ring_counter};
 ghost use Rattle.board_calls.specs.Accessed.{ringing};
-ghost use Rattle.board_calls.specs.Done.{SameInHand, FitsShape};
+ghost use Rattle.board_calls.specs.Done.{IsMissing, SameInHand, FitsShape};
 ghost use Rattle.board_calls.specs.Told.{TellsOn};
 
 use crate::signals::inject_told;
@@ -32,6 +32,7 @@ pub fn ring<R: Rig>(
 ) -> Result<Reply, Lacks>
     requires fits { FitsShape shape.now (R.held rig.old) }
     ensures does { R.astray rig.new ≡ false → TellsOn (λ reply. reply ∷ []) result events.old.items events.new.items (parts_of (R.held rig.new)) (R.wishes rig.new) (run_on (ring (routing_of_words (R.published rig.old)) shape.now space address len value) (parts_of (R.held rig.old)) (R.wishes rig.old)) }
+    ensures missing { IsMissing result (R.held rig.old) }
     ensures held { SameInHand (R.held rig.old) (R.held rig.new) }
     ensures fits { FitsShape shape.now (R.held rig.new) }
     ensures published { R.published rig.new ≡ R.published rig.old }
@@ -55,6 +56,7 @@ fn ring_ioevent<R: Rig>(
     requires counter { counter < shape.now.counters }
     requires fits { FitsShape shape.now (R.held rig.old) }
     ensures does { R.astray rig.new ≡ false → TellsOn (λ reply. reply ∷ []) result events.old.items events.new.items (parts_of (R.held rig.new)) (R.wishes rig.new) (run_on (rung (routing_of_words (R.published rig.old)) shape.now (Some counter)) (parts_of (R.held rig.old)) (R.wishes rig.old)) }
+    ensures missing { IsMissing result (R.held rig.old) }
     ensures held { SameInHand (R.held rig.old) (R.held rig.new) }
     ensures fits { FitsShape shape.now (R.held rig.new) }
     ensures published { R.published rig.new ≡ R.published rig.old }
@@ -77,6 +79,7 @@ fn rung_by(
     value: u64,
 ) -> Result<Option<u16>, Lacks>
     ensures does { (ws : Wishes) → DoesQuietly (λ rung. rung) result (parts_of parts.now) ws (run_on (ringing space address len value) (parts_of parts.now) ws) }
+    ensures missing { IsMissing result parts.now }
     ensures counter { (shape : Sizes) → FitsShape shape parts.now → IfOk result (λ rung. IfSome rung (λ c. c < shape.counters)) }
 {
     match &parts.registry {
@@ -97,6 +100,7 @@ fn ring_counter<R: Rig>(
     requires counter { counter < shape.now.counters }
     requires fits { FitsShape shape.now (R.held rig.old) }
     ensures does { let routing = routing_of_words (R.published rig.old) in R.astray rig.new ≡ false → Adds result events.old.items events.new.items (parts_of (R.held rig.new)) (R.wishes rig.new) (run_on (ring_counter routing shape.now counter (routing.trigger counter)) (parts_of (R.held rig.old)) (R.wishes rig.old)) }
+    ensures missing { IsMissing result (R.held rig.old) }
     ensures held { SameInHand (R.held rig.old) (R.held rig.new) }
     ensures fits { FitsShape shape.now (R.held rig.new) }
     ensures published { R.published rig.new ≡ R.published rig.old }
@@ -114,6 +118,7 @@ fn ring_counter<R: Rig>(
 fn signal(parts: &mut Parts, counter: u16) -> Result<(), Lacks>
     requires { IfSome parts.old.counters (λ counts. counter < length counts) }
     ensures does { (ws : Wishes) → Leaves result (parts_of parts.new) ws (run_on (change Counters (λ counts. signalled counts counter)) (parts_of parts.old) ws) }
+    ensures missing { IsMissing result parts.old }
     ensures held { SameInHand parts.old parts.new }
     ensures fits { (shape : Sizes) → FitsShape shape parts.old → FitsShape shape parts.new }
 {

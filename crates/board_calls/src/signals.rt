@@ -12,7 +12,7 @@ ghost use Rattle.board_raise.specs.Signal.{lower};
 ghost use Rattle.board_ack.specs.OnHand.{Adds};
 ghost use Rattle.board_calls.specs.Accesses.{ring_counter};
 ghost use Rattle.board_calls.specs.Registrations.{line_set, message_sent, source_of, trigger_written, write};
-ghost use Rattle.board_calls.specs.Done.{Replies, SameInHand, FitsShape};
+ghost use Rattle.board_calls.specs.Done.{Replies, IsMissing, SameInHand, FitsShape};
 
 use crate::counters::add;
 use board_raise::{Lacks, Rig, TriggerWord, inject, lower_gsi, raise_gsi, send};
@@ -25,6 +25,7 @@ pub fn raise_line<R: Rig>(rig: &mut R, shape: &Shape, gsi: u16, line: u8) -> Res
     requires line { line < 8 }
     requires fits { FitsShape shape.now (R.held rig.old) }
     ensures does { R.astray rig.new ≡ false → Replies (line_set (routing_of_words (R.published rig.old)) shape.now gsi line true) (R.held rig.old) (R.wishes rig.old) result (R.held rig.new) (R.wishes rig.new) }
+    ensures missing { IsMissing result (R.held rig.old) }
     ensures held { SameInHand (R.held rig.old) (R.held rig.new) }
     ensures fits { FitsShape shape.now (R.held rig.new) }
     ensures published { R.published rig.new ≡ R.published rig.old }
@@ -44,6 +45,7 @@ pub fn lower_line<R: Rig>(rig: &mut R, gsi: u16, line: u8) -> Result<Reply, Lack
     requires line { line < 8 }
     requires pins { PinsFit (chips_of (R.held rig.old)) }
     ensures does { R.astray rig.new ≡ false → Replies (lower ((routing_of_words (R.published rig.old)).targets gsi) (Line line)) (R.held rig.old) (R.wishes rig.old) result (R.held rig.new) (R.wishes rig.new) }
+    ensures missing { IsMissing result (R.held rig.old) }
     ensures held { SameInHand (R.held rig.old) (R.held rig.new) }
     ensures fits { (shape : Sizes) → FitsShape shape (R.held rig.old) → FitsShape shape (R.held rig.new) }
     ensures published { R.published rig.new ≡ R.published rig.old }
@@ -67,6 +69,7 @@ pub fn send_message<R: Rig>(
     requires good { address / 2 ^ 20 ≡ 0xfee }
     requires fits { FitsShape shape.now (R.held rig.old) }
     ensures does { Replies (message_sent shape.now address payload) (R.held rig.old) (R.wishes rig.old) result (R.held rig.new) (R.wishes rig.new) }
+    ensures missing { IsMissing result (R.held rig.old) }
     ensures held { SameInHand (R.held rig.old) (R.held rig.new) }
     ensures fits { FitsShape shape.now (R.held rig.new) }
     ensures published { R.published rig.new ≡ R.published rig.old }
@@ -97,6 +100,7 @@ pub fn write<R: Rig>(rig: &mut R, shape: &Shape, counter: u16, n: u64) -> Result
     requires count { n < 2 ^ 64 - 1 }
     requires fits { FitsShape shape.now (R.held rig.old) }
     ensures does { let routing = routing_of_words (R.published rig.old) in R.astray rig.new ≡ false → Replies (write routing shape.now (routing.trigger counter) counter n) (R.held rig.old) (R.wishes rig.old) result (R.held rig.new) (R.wishes rig.new) }
+    ensures missing { IsMissing result (R.held rig.old) }
     ensures held { SameInHand (R.held rig.old) (R.held rig.new) }
     ensures fits { FitsShape shape.now (R.held rig.new) }
     ensures published { R.published rig.new ≡ R.published rig.old }
@@ -119,6 +123,7 @@ pub fn write_trigger<R: Rig>(
     requires gsi { trigger.gsi < 4096 }
     requires fits { FitsShape shape.now (R.held rig.old) }
     ensures does { R.astray rig.new ≡ false → Replies (trigger_written (routing_of_words (R.published rig.old)) shape.now trigger) (R.held rig.old) (R.wishes rig.old) result (R.held rig.new) (R.wishes rig.new) }
+    ensures missing { IsMissing result (R.held rig.old) }
     ensures held { SameInHand (R.held rig.old) (R.held rig.new) }
     ensures fits { FitsShape shape.now (R.held rig.new) }
     ensures published { R.published rig.new ≡ R.published rig.old }
@@ -143,6 +148,7 @@ pub fn inject_told<R: Rig>(
     requires gsi { trigger.gsi < 4096 }
     requires fits { FitsShape shape.now (R.held rig.old) }
     ensures does { (counter : ℕ) → R.astray rig.new ≡ false → Adds result events.old.items events.new.items (parts_of (R.held rig.new)) (R.wishes rig.new) (run_on (ring_counter (routing_of_words (R.published rig.old)) shape.now counter (Some trigger)) (parts_of (R.held rig.old)) (R.wishes rig.old)) }
+    ensures missing { IsMissing result (R.held rig.old) }
     ensures held { SameInHand (R.held rig.old) (R.held rig.new) }
     ensures fits { FitsShape shape.now (R.held rig.new) }
     ensures published { R.published rig.new ≡ R.published rig.old }

@@ -10,7 +10,7 @@ ghost use Rattle.board_model.specs.Run.{Wishes, run_on};
 ghost use Rattle.board_raise.specs.InHand.{parts_of};
 ghost use Rattle.board_raise.specs.Shown.{DoesQuietly, Leaves};
 ghost use Rattle.board_calls.specs.Ticks.{tick, tick_mode};
-ghost use Rattle.board_calls.specs.Done.{Replies, SameInHand, FitsShape, FitsButTick};
+ghost use Rattle.board_calls.specs.Done.{Replies, IsMissing, SameInHand, FitsShape, FitsButTick};
 ghost use Rattle.board_calls.specs.Pieces.{falling};
 
 use board_raise::{Lacks, Parts, Rig, inject};
@@ -20,6 +20,7 @@ use irq_base::{Part, Reply, Shape, Source, Status};
 #[tactic(auto, using(crate::proofs::InHand::in_hand_rules))]
 pub fn set_mode(parts: &mut Parts, reinject: bool) -> Result<Reply, Lacks>
     ensures does { (ws : Wishes) → Replies (tick_mode reinject) parts.old ws result parts.new ws }
+    ensures missing { IsMissing result parts.old }
     ensures held { SameInHand parts.old parts.new }
     ensures fits { (shape : Sizes) → FitsShape shape parts.old → FitsShape shape parts.new }
 {
@@ -36,6 +37,7 @@ pub fn set_mode(parts: &mut Parts, reinject: bool) -> Result<Reply, Lacks>
 pub fn tick<R: Rig>(rig: &mut R, shape: &Shape) -> Result<Reply, Lacks>
     requires fits { FitsShape shape.now (R.held rig.old) }
     ensures does { R.astray rig.new ≡ false → Replies (tick (routing_of_words (R.published rig.old)) shape.now) (R.held rig.old) (R.wishes rig.old) result (R.held rig.new) (R.wishes rig.new) }
+    ensures missing { IsMissing result (R.held rig.old) }
     ensures held { SameInHand (R.held rig.old) (R.held rig.new) }
     ensures fits { FitsButTick shape.now (R.held rig.new) }
     ensures published { R.published rig.new ≡ R.published rig.old }
@@ -54,6 +56,7 @@ pub fn tick<R: Rig>(rig: &mut R, shape: &Shape) -> Result<Reply, Lacks>
 fn fall(parts: &mut Parts) -> Result<Option<u64>, Lacks>
     requires { IfSome parts.old.tick (λ tick. tick.pending ≤ 2 ^ 40) }
     ensures does { (ws : Wishes) → DoesQuietly (λ held. held) result (parts_of parts.new) ws (run_on falling (parts_of parts.old) ws) }
+    ensures missing { IsMissing result parts.old }
     ensures held { SameInHand parts.old parts.new }
     ensures fits { (shape : Sizes) → FitsShape shape parts.old → FitsButTick shape parts.new }
 {
@@ -71,6 +74,7 @@ fn fall(parts: &mut Parts) -> Result<Option<u64>, Lacks>
 fn inject_tick<R: Rig>(rig: &mut R, shape: &Shape) -> Result<Reply, Lacks>
     requires fits { FitsButTick shape.now (R.held rig.old) }
     ensures does { R.astray rig.new ≡ false → Replies (inject_tick (routing_of_words (R.published rig.old)) shape.now (λ pic. the_reply pic)) (R.held rig.old) (R.wishes rig.old) result (R.held rig.new) (R.wishes rig.new) }
+    ensures missing { IsMissing result (R.held rig.old) }
     ensures held { SameInHand (R.held rig.old) (R.held rig.new) }
     ensures fits { FitsButTick shape.now (R.held rig.new) }
     ensures published { R.published rig.new ≡ R.published rig.old }
@@ -92,6 +96,7 @@ fn inject_tick<R: Rig>(rig: &mut R, shape: &Shape) -> Result<Reply, Lacks>
 #[tactic(auto, using(crate::proofs::InHand::in_hand_rules))]
 fn note_injection(parts: &mut Parts, status: &Status) -> Result<(), Lacks>
     ensures does { (ws : Wishes) → Leaves result (parts_of parts.new) ws (run_on (change Tick (λ tick. tick_injected tick status.now)) (parts_of parts.old) ws) }
+    ensures missing { IsMissing result parts.old }
     ensures held { SameInHand parts.old parts.new }
     ensures fits { (shape : Sizes) → FitsButTick shape parts.old → FitsButTick shape parts.new }
 {

@@ -1,10 +1,7 @@
--- A board on one thread as a rig: its parts, the words that it published, and what it is to choose next.
-use Rattle.std.specs.Prelude.{ℕ, ◌<◌, All, List, [], ◌∷◌, Some, None}
-use Rattle.std.specs.declared.option.Option.{Option}
-use Rattle.irq_bits.specs.Members.{Numbers}
+-- A board on one thread as a rig: its parts, and the words that it published.
+use Rattle.std.specs.Prelude.{ℕ, ◌<◌, All, List}
 use Rattle.ack_notifiers.specs.declared.watches.Watch.{Watch}
 use Rattle.board_model.specs.Published.{published, IsSoundIrqfd}
-use Rattle.board_model.specs.Run.{Wishes}
 use Rattle.board_raise.specs.declared.parts.Parts.{Parts}
 use Rattle.board_raise.specs.declared.parts.RegistryPart.{RegistryPart}
 use Rattle.board_raise.specs.declared.words.Words.{Words}
@@ -18,11 +15,6 @@ with_parts r p = record r { parts = p }
 -- the words that a registry publishes
 abbrev pub words_in : Words → List ℕ
 words_in w = published (registry_of w.registry) w.tick
-
--- the next wish, and no other
-abbrev pub wishes_of : Option Numbers → Wishes
-wishes_of None = []
-wishes_of (Some wish) = wish ∷ []
 
 -- irqfds and notifiers name triggers and GSIs that there can be
 pub record NamesWhatIsThere (registry : RegistryPart) : Type 0 where

@@ -1,5 +1,5 @@
 //! A rig over all parts of a board on one thread.
-ghost use Rattle.std.specs.Prelude.{◌≡◌, ◌<◌, is_some, Some, None, IfSome};
+ghost use Rattle.std.specs.Prelude.{◌≡◌, ◌<◌, ◌≤◌, [], length, is_some, IfSome};
 ghost use Rattle.board_model.specs.Hand.{part_in};
 ghost use Rattle.board_model.specs.Published.{published};
 ghost use Rattle.board_raise.specs.BoardRig.{NamesWhatIsThere, words_in};
@@ -9,6 +9,7 @@ ghost use Rattle.board_raise.specs.OnRow.{apic_in};
 use crate::parts::Parts;
 use crate::rig::Rig;
 use crate::row::LapicRow;
+use crate::wish_list::WishList;
 use crate::words::Words;
 use board_model::TriggerWord;
 use irq_base::{Part, Pin, Targets};
@@ -20,8 +21,8 @@ use irq_bits::CpuSet;
 pub struct BoardRig {
     parts: Parts,
     words: Words,
-    /// What the next sending is to choose.
-    wish: Option<CpuSet>,
+    /// What the next sendings are to choose.
+    wishes: WishList,
 }
 
 // Whether the local APIC of the processor is in hand.
@@ -51,22 +52,22 @@ impl BoardRig {
     pub fn new(parts: Parts, words: Words) -> BoardRig
         ensures parts { result.parts ≡ parts }
         ensures words { result.words ≡ words }
-        ensures wish { result.wish ≡ None }
+        ensures wishes { result.wishes ≡ [] }
     {
         BoardRig {
             parts,
             words,
-            wish: None,
+            wishes: WishList::none(),
         }
     }
 
-    /// The next sending is to choose one of these processors, where it is free to choose.
-    pub fn wish_for(&mut self, wish: CpuSet)
-        ensures parts { self.new.parts ≡ self.old.parts }
-        ensures words { self.new.words ≡ self.old.words }
-        ensures wish { self.new.wish ≡ Some wish }
+    /// The next sendings are to choose one processor of these sets each, in order, where they are free to choose; those after
+    /// them are not told what to choose.
+    pub fn wish_for(&mut self, wishes: &[CpuSet])
+        requires { length wishes.now ≤ 561 }
+        ensures { self.new ≡ record self.old { wishes = wishes.now } }
     {
-        self.wish = Some(wish);
+        self.wishes.set_to(wishes);
     }
 
     /// From now on the words are those of the registry in hand, if it is in hand, with ticks on that GSI. It takes no memory.
@@ -75,7 +76,7 @@ impl BoardRig {
         requires tick { tick < 4096 }
         ensures parts { self.new.parts ≡ self.old.parts }
         ensures words { IfSome self.old.parts.registry (λ registry. words_in self.new.words ≡ published (registry_of registry) tick) }
-        ensures wish { self.new.wish ≡ self.old.wish }
+        ensures wishes { self.new.wishes ≡ self.old.wishes }
     {
         if let Some(registry) = &self.parts.registry {
             self.words.publish(registry, tick);
@@ -100,7 +101,7 @@ impl BoardRig {
 
 impl Rig for BoardRig {
     ghost use Rattle.std.specs.Prelude.{◌≡◌, false, [], refl};
-    ghost use Rattle.board_raise.specs.BoardRig.{with_parts, words_in, wishes_of};
+    ghost use Rattle.board_raise.specs.BoardRig.{with_parts, words_in};
 
     ghost held = { λ r. r.parts };
 
@@ -108,7 +109,7 @@ impl Rig for BoardRig {
 
     ghost astray = { λ _. false };
 
-    ghost wishes = { λ r. wishes_of r.wish };
+    ghost wishes = { λ r. r.wishes };
 
     ghost noted = { λ _. [] };
 
@@ -149,9 +150,6 @@ impl Rig for BoardRig {
     }
 
     fn wish(&mut self) -> CpuSet {
-        match self.wish.take() {
-            None => CpuSet::empty(),
-            Some(wish) => wish,
-        }
+        self.wishes.take_first()
     }
 }

@@ -17,6 +17,7 @@ mod rig;
 mod row;
 mod sending;
 mod signals;
+mod wish_list;
 mod words;
 
 ghost use Rattle.board_raise.specs.Laws.{WishesChooseExactly, WishesReachExactly, IllegalVectorIsRecorded};
@@ -33,6 +34,7 @@ pub use parts::{IoPart, Parts, PicPart, RegistryPart};
 pub use rig::Rig;
 pub use row::LapicRow;
 pub use signals::{inject, lower_gsi, raise_gsi, send_of_pin};
+pub use wish_list::WishList;
 pub use words::Words;
 
 /// A law: of some named processors the sets that are chosen under all wishes are those that may be reached.

@@ -38,7 +38,7 @@ use Rattle.board_step.proofs.BodySteps.{done_leads}
 
 -- ---- what it did leads on
 
-tells_did : (result : Result Reply Lacks) (before now : List Event) (after : Parts) (later : Wishes) (o : OnParts (Unit {0})) → TellsOn (λ reply. reply ∷ []) result before now after later o → Did result before now after later o
+pub tells_did : (result : Result Reply Lacks) (before now : List Event) (after : Parts) (later : Wishes) (o : OnParts (Unit {0})) → TellsOn (λ reply. reply ∷ []) result before now after later o → Did result before now after later o
 tells_did (Ok reply) before now after later (gives a log left others) h = record {
   answers = sym h.1.ends.replies_are;
   noted = h.1.room ∙ ap (with_told before) h.1.ends.events_are;

@@ -1,5 +1,5 @@
 -- One call on a board in code is one step of it.
-use Rattle.std.proofs.Common.{◌≡◌, ℕ, ◌+◌, ◌<◌, Bool, true, false, true≢false, nat_lt, List, is_some, Some, None, refl, sym, ap, ◌∙◌, subst, arith}
+use Rattle.std.proofs.Common.{◌≡◌, ℕ, ◌+◌, ◌<◌, Bool, true, false, true≢false, nat_lt, List, [], ◌∷◌, Ok, is_some, Some, None, refl, sym, ap, ◌∙◌, subst, arith}
 use Rattle.std.proofs.lemmas.Bool.Decides.{nat_tests}
 use Rattle.std.specs.Prelude.{IfSome, unwrap_or}
 use Rattle.std.specs.declared.option.Option.{Option}
@@ -11,17 +11,19 @@ use Rattle.irq_base.specs.declared.reply.Reply.{Reply}
 use Rattle.irq_base.specs.declared.shape.Part.{Part}
 use Rattle.irq_base.specs.declared.shape.Part.TheVariants.{Registry, Counters, Tick, Pic, Ioapic, Lapic}
 use Rattle.board_model.specs.Agreement.{LacksReached}
-use Rattle.board_model.specs.Board.{part_of}
-use Rattle.board_model.specs.Hand.{part_in}
+use Rattle.board_model.specs.Board.{Board, part_of}
+use Rattle.board_model.specs.Hand.{Parts, part_in}
 use Rattle.board_model.specs.Published.{published}
+use Rattle.board_model.specs.Run.{Wishes, run_on}
 use Rattle.board_raise.specs.declared.board_rig.BoardRig.{BoardRig}
 use Rattle.board_raise.specs.BoardRig.{words_in}
 use Rattle.board_raise.specs.Fit.{Fits}
 use Rattle.board_raise.specs.InHand.{registry_of, parts_of, chips_of}
 use Rattle.board_calls.specs.Done.{FitsShape, FitsButTick}
+use Rattle.board_calls.specs.Told.{TellsOn}
 use Rattle.board_step.specs.declared.board.Board.TheInside.{Inside}
-use Rattle.board_step.specs.Applied.{Applied}
-use Rattle.board_step.specs.Bodies.{MayCall, entry_of, Stepped}
+use Rattle.board_step.specs.Applied.{Applied, Ran}
+use Rattle.board_step.specs.Bodies.{MayCall, plan_by, entry_of, Stepped}
 use Rattle.board_step.specs.History.{opening_registry}
 use Rattle.board_step.specs.Laws.{IsTyped}
 use Rattle.board_step.specs.Owned.{board_in, IsKept}
@@ -29,11 +31,37 @@ use Rattle.board_step.specs.Publications.{spent_by}
 use Rattle.board_step.specs.Reach.{reach}
 use Rattle.board_step.specs.Step.{would_publish, spent_of, Step}
 use Rattle.board_step.specs.Whole.{is_part}
-use Rattle.board_step.proofs.Applied.{published_by, after_call, applied_steps, applied_kept, words_left, words_anew}
+use Rattle.board_step.proofs.Answered.{tells_did}
+use Rattle.board_step.proofs.Applied.{kept_is_of, published_by, after_call, applied_steps, applied_kept, words_left, words_anew}
+use Rattle.board_step.proofs.BodySteps.{done_ran}
 use Rattle.board_step.proofs.OpeningParts.{sound_fits}
 use Rattle.board_step.proofs.ReachDecides.{stays_outside_reach}
 use Rattle.board_step.proofs.There.{reach_is_there}
 use Rattle.board_step.proofs.WholeParts.{board_has_its_parts}
+
+-- ---- other wishes
+
+-- the board in code with its rig wishing for these
+module _ (a : Inside) (rig : BoardRig) (ws : Wishes) (is : rig ≡ record a.rig { wishes = ws }) where
+  abbrev pub wishing : Inside
+  wishing = record a { rig = rig }
+
+  pub wishing_kept : IsKept a → IsKept wishing
+  wishing_kept kept = subst (λ r. IsKept (record a { rig = r })) (sym is) (record { whole = kept.whole; sound = kept.sound; pins = kept.pins; words = kept.words })
+
+  pub wishing_is : board_in wishing ≡ board_in a
+  wishing_is = ap (λ r. board_in (record a { rig = r })) is
+
+  -- what the call told under them
+  pub wishing_ran : IsKept a → (caller : Caller) (call : Call) (reply : Reply) (before now : List Event) (after : Parts) (later : Wishes)
+      → TellsOn (λ answer. answer ∷ []) (Ok reply) before now after later (run_on (plan_by (words_in rig.words) a.shape caller call) (parts_of rig.parts) rig.wishes)
+      → Ran (board_in a) caller call ws reply before now
+  wishing_ran kept caller call reply before now after later h =
+      let q = parts_of rig.parts in
+      let words = words_in rig.words in
+      let did = tells_did (Ok reply) before now after later (run_on (plan_by words a.shape caller call) q rig.wishes) h in
+      subst (λ (x : Board × Wishes). Ran x.0 caller call x.1 reply before now) (λ i. (wishing_is i, (is i).wishes))
+      (done_ran a.shape words q caller call rig.wishes (board_in wishing) (kept_is_of wishing (wishing_kept kept)) reply before now after later did)
 
 -- ---- before the call
 

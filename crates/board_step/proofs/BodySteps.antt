@@ -1,11 +1,12 @@
 -- One law for all bodies, from exactness on parts, the table of reach and the published words.
-use Rattle.std.proofs.Common.{◌≡◌, Bool, true, false, List, [], ◌∷◌, length, refl, sym, ap, ◌∙◌, subst, Ok, Err, arith}
+use Rattle.std.proofs.Common.{◌≡◌, ℕ, Bool, true, false, List, [], ◌∷◌, length, refl, sym, ap, ◌∙◌, subst, Ok, Err, arith}
 use Rattle.std.specs.Prelude.{Result}
 use Rattle.irq_base.specs.declared.call.Call.{Call}
 use Rattle.irq_base.specs.declared.call.Caller.{Caller}
 use Rattle.irq_base.specs.declared.event.Event.{Event}
 use Rattle.irq_base.specs.declared.reply.Reply.{Reply}
 use Rattle.irq_base.specs.declared.shape.Shape.{Shape}
+use Rattle.irq_base.specs.Room.{with_told}
 use Rattle.board_model.specs.Board.{Board}
 use Rattle.board_model.specs.Hand.{Parts, part_in, all_parts}
 use Rattle.board_model.specs.Run.{Wishes, Log, run, reaches, OnParts, gives, lacks, run_on}
@@ -16,6 +17,7 @@ use Rattle.board_raise.specs.declared.lacks.Lacks.{Lacks}
 use Rattle.board_calls.specs.Calls.{plan_of}
 use Rattle.board_step.specs.Step.{would_publish, with_counts, plan_on, counted}
 use Rattle.board_step.specs.Reach.{reach}
+use Rattle.board_step.specs.Applied.{Ran}
 use Rattle.board_step.specs.Bodies.{IsOf, IsWorth, plan_by, IsStepFrom, BodiesStep, Did, LeadsFrom, DoneLeads}
 use Rattle.board_step.proofs.CountingAnswers.{answers_once}
 use Rattle.board_step.proofs.ReachCalls.{reach_is_table}
@@ -88,3 +90,14 @@ module _ (b : Board) (caller : Caller) (call : Call) (q : Parts) (before events 
 pub done_leads : DoneLeads
 done_leads shape words q caller call ws result before events after later did b is =
     leads b caller call q before events after later result (run_on (plan_by words shape caller call) q ws) did (bodies_step shape words q caller call ws b is)
+
+-- what a body told is what its call tells on each board of which its parts are
+module _ (shape : Shape) (words : List ℕ) (q : Parts) (caller : Caller) (call : Call) (ws : Wishes) (b : Board) (is : IsOf shape words q b)
+    (reply : Reply) (before now : List Event) (after : Parts) (later : Wishes) where
+  ran_by : (o : OnParts (Unit {0})) → Exact o (run (plan_on b caller call) b ws) q (reaches (plan_on b caller call) b ws) → Did (Ok reply) before now after later o → Ran b caller call ws reply before now
+  ran_by (gives _ log left others) h did = record { answers = ap (λ (l : Log). l.answers) (sym h.log) ∙ did.answers; events = did.noted ∙ ap (λ (l : Log). with_told before l.events) h.log }
+  ran_by (lacks p) h did = absurd did
+
+  pub done_ran : Did (Ok reply) before now after later (run_on (plan_by words shape caller call) q ws) → Ran b caller call ws reply before now
+  done_ran did = ran_by (run_on (plan_on b caller call) q ws) (exact_on_parts (plan_on b caller call) q b ws is.agrees)
+      (subst (λ m. Did (Ok reply) before now after later (run_on m q ws)) (same_plan words q shape caller call b is) did)

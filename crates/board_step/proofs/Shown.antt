@@ -26,7 +26,7 @@ wishes_replied (r ∷ rs) = wish_replied r ++ wishes_replied rs
 
 -- ---- one status
 
-empty_is : is_empty set.empty ≡ true
+pub empty_is : is_empty set.empty ≡ true
 empty_is = grind (len-empty nat_cmp, arith)
 
 none_wished : wish_of nobody ≡ []
@@ -39,10 +39,10 @@ same_twice false = refl
 nobody_twice : set.union {R = nat_cmp} set.empty set.empty ≡ set.empty
 nobody_twice = same_set nat_cmp_total nat_cmp-IsAntisymmetric _ _ (λ q. contains-union nat_cmp_total _ _ q ∙ same_twice (set.contains {R = nat_cmp} set.empty q))
 
-was_empty : (s : Numbers) → is_empty s ≡ true → s ≡ set.empty
+pub was_empty : (s : Numbers) → is_empty s ≡ true → s ≡ set.empty
 was_empty s h = set.empty_of_len s (grind (h, arith))
 
-wished : (s : Sent) → is_empty (reached s) ≡ false → wish_of s ≡ reached s ∷ []
+pub wished : (s : Sent) → is_empty (reached s) ≡ false → wish_of s ≡ reached s ∷ []
 wished s somebody = elim (is_empty s.new) as (λ t. is_empty s.new ≡ t → (if t then (if is_empty s.stood then [] else reached s ∷ []) else reached s ∷ []) ≡ reached s ∷ []) [
   | true ↦ λ no_new. elim (is_empty s.stood) as (λ t. is_empty s.stood ≡ t → (if t then [] else reached s ∷ []) ≡ reached s ∷ []) [
     | true ↦ λ none_stood. absurd (true≢false (

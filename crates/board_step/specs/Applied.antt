@@ -1,16 +1,19 @@
 -- One call on a board in code, and limits that are reached (this board's own rule).
-use Rattle.std.specs.Prelude.{◌≡◌, Bool, true, ◌&&◌, nat_eq, List, Some, None}
+use Rattle.std.specs.Prelude.{◌≡◌, Bool, true, ◌&&◌, nat_eq, List, [], ◌∷◌, Some, None}
 use Rattle.std.specs.declared.option.Option.{Option}
 use Rattle.irq_base.specs.Room.{with_told}
 use Rattle.irq_base.specs.declared.call.Call.{Call}
 use Rattle.irq_base.specs.declared.call.Caller.{Caller}
 use Rattle.irq_base.specs.declared.event.Event.{Event}
+use Rattle.irq_base.specs.declared.lists.Entry.{Entry}
 use Rattle.irq_base.specs.declared.reply.Done.{Done}
+use Rattle.irq_base.specs.declared.reply.Reply.{Reply}
 use Rattle.irq_base.specs.declared.reply.Spent.{Spent}
 use Rattle.irq_base.specs.declared.reply.Spent.TheVariants.{Calls, Publications}
 use Rattle.board_model.specs.Board.{Board}
+use Rattle.board_model.specs.Run.{Wishes, run}
 use Rattle.board_step.specs.Bodies.{entry_of}
-use Rattle.board_step.specs.Step.{Step}
+use Rattle.board_step.specs.Step.{plan_on, Step}
 
 -- a call was answered: so many entries stood before it; it told events after those that stood in the list, but for what found
 -- no room; and its entry leads from the board before to the board after
@@ -19,6 +22,16 @@ pub record Applied (old : Board) (caller : Caller) (call : Call) (done : Done) (
   pub told : List Event
   pub events : now ≡ with_told before told
   pub step : Step old (entry_of caller call done.reply told) new
+
+-- an entry is a step from a board: it leads to some board
+abbrev pub LeadsOn : Board → Entry → Type 0
+LeadsOn b e = (next : Board) × Step b e next
+
+-- under these wishes a call answers this reply alone, and it tells events of which the list has, after those that stood there, what
+-- found room
+pub record Ran (b : Board) (caller : Caller) (call : Call) (wishes : Wishes) (reply : Reply) (before now : List Event) : Type 0 where
+  pub answers : (run (plan_on b caller call) b wishes).log.answers ≡ reply ∷ []
+  pub events : now ≡ with_told before (run (plan_on b caller call) b wishes).log.events
 
 -- whether a limit that barred a call is one of the board's shape, and is reached; none need be
 abbrev pub is_reached : Board → Option Spent → Bool

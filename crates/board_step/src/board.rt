@@ -1,5 +1,5 @@
 //! A whole board on one thread.
-ghost use Rattle.std.specs.Prelude.{◌≡◌, ◌<◌, ◌↔◌, IfOk, IsErrOf, Err, true, false, None, Some, MatchResult, OnErr};
+ghost use Rattle.std.specs.Prelude.{◌≡◌, ◌<◌, ◌≤◌, ◌↔◌, IfOk, IsErrOf, Err, true, false, length, None, Some, MatchResult, OnErr};
 ghost use Rattle.irq_base.specs.Callers.{is_allowed};
 ghost use Rattle.irq_base.specs.declared.shape.Part.{Part as AnyPart};
 ghost use Rattle.board_model.specs.Board.{part_of};
@@ -10,7 +10,7 @@ ghost use Rattle.board_raise.specs.BoardRig.{words_in};
 ghost use Rattle.board_raise.specs.Fit.{InLimits, Fits};
 ghost use Rattle.board_raise.specs.InHand.{parts_of, chips_of};
 ghost use Rattle.board_step.specs.declared.open.OpenError.TheVariants as errors;
-ghost use Rattle.board_step.specs.Applied.{Applied};
+ghost use Rattle.board_step.specs.Applied.{Applied, Ran};
 ghost use Rattle.board_step.specs.Due.{AnswersDue};
 ghost use Rattle.board_step.specs.History.{opening};
 ghost use Rattle.board_step.specs.Reach.{reach};
@@ -27,6 +27,7 @@ use crate::step::step_on;
 use crate::typed::calls_are_typed;
 use board_raise::{BoardRig, Parts, Words};
 use irq_base::{Call, Caller, Done, Events, NoMemory, Part, Shape, Spent};
+use irq_bits::CpuSet;
 use std::alloc::Global;
 use std::marker::Model;
 
@@ -127,6 +128,28 @@ impl Board {
         ensures stays { OnErr result (self.new ≡ self.old) }
         ensures quiet { OnErr result (events.new ≡ events.old) }
     {
+        self.step(&[], caller, call, events)
+    }
+
+    /// One call on the board, as `apply` makes it, where each sending that is free to choose chooses a processor of the next set
+    /// that is wished for, if it has one of those.
+    pub(crate) fn step(
+        &mut self,
+        wishes: &[CpuSet],
+        caller: Caller,
+        call: &Call,
+        events: &mut Events,
+    ) -> Result<Done, Spent>
+        requires allowed { is_allowed caller call.now self.old.shape ≡ true }
+        requires wishes { length wishes.now ≤ 561 }
+        ensures spent { MatchResult result (λ _. spent_of self.old call.now ≡ None) (λ spent. spent_of self.old call.now ≡ Some spent) }
+        ensures ran { IfOk result (λ done. Ran self.old caller call.now wishes.now done.reply events.old.items events.new.items) }
+        ensures applied { IfOk result (λ done. Applied self.old caller call.now done events.old.items events.new.items self.new) }
+        ensures outside { (p : AnyPart) → reach self.old caller call.now p ≡ false → part_of self.new p ≡ part_of self.old p }
+        ensures stays { OnErr result (self.new ≡ self.old) }
+        ensures quiet { OnErr result (events.new ≡ events.old) }
+    {
+        self.rig.wish_for(wishes);
         let publishes = would_publish_in(self.rig.all(), &self.shape, call);
         if let Some(spent) = barred_by(&self.shape, self.length, self.publications, publishes) {
             return Err(spent);

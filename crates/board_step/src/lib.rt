@@ -10,7 +10,9 @@
 
 mod board;
 mod bodies;
+mod choices;
 mod due;
+mod follow;
 mod laws;
 mod limits;
 mod on_board;
@@ -23,6 +25,7 @@ mod reach_acks;
 mod reach_calls;
 mod reach_registrations;
 mod reach_signals;
+mod same;
 mod seen;
 mod sound;
 mod step;

@@ -6,7 +6,7 @@ ghost use Rattle.board_model.specs.Published.{routing_of_words};
 ghost use Rattle.board_model.specs.Run.{run_on};
 ghost use Rattle.board_raise.specs.InHand.{parts_of};
 ghost use Rattle.board_calls.specs.Calls.{number_of, plan_in_range};
-ghost use Rattle.board_calls.specs.Done.{SameInHand, FitsShape, FitsButTick};
+ghost use Rattle.board_calls.specs.Done.{IsMissing, SameInHand, FitsShape, FitsButTick};
 ghost use Rattle.board_calls.specs.Refusals.{range_reasons};
 ghost use Rattle.board_calls.specs.Told.{TellsOn};
 ghost use Rattle.board_step.specs.Bodies.{plan_by, BodyLeads};
@@ -33,7 +33,8 @@ pub(crate) fn number_of(caller: Caller) -> u16
 /// Where the rig is not astray afterwards: on every board of this shape, with a sound registry, of which the parts in hand and
 /// the published words are, `Ok` carries the reply of a step from that board, the events of that step stand after those that
 /// stood there, but for what finds no room for 640, and the parts are those of the board after it; `Lacks` comes exactly where
-/// a part of the call's reach is not in hand, and names one, and then nothing is promised of the parts' values.
+/// a part of the call's reach is not in hand, and names one, and then nothing is promised of the parts' values. Where the rig
+/// is astray, the reply may be another; a part that `Lacks` names is not in hand there either.
 ///
 /// The same parts are in hand after the call as before it, and they fit the shape, but that one tick more than there may be can
 /// be pending.
@@ -48,6 +49,7 @@ pub fn step_on<R: Rig>(
     requires fits { FitsShape shape.now (R.held rig.old) }
     ensures leads { R.astray rig.new ≡ false → BodyLeads shape.now (R.published rig.old) (parts_of (R.held rig.old)) caller call.now result events.old.items events.new.items (parts_of (R.held rig.new)) }
     ensures does { R.astray rig.new ≡ false → TellsOn (λ reply. reply ∷ []) result events.old.items events.new.items (parts_of (R.held rig.new)) (R.wishes rig.new) (run_on (plan_by (R.published rig.old) shape.now caller call.now) (parts_of (R.held rig.old)) (R.wishes rig.old)) }
+    ensures missing { IsMissing result (R.held rig.old) }
     ensures held { SameInHand (R.held rig.old) (R.held rig.new) }
     ensures fits { FitsButTick shape.now (R.held rig.new) }
     ensures published { R.published rig.new ≡ R.published rig.old }
@@ -72,6 +74,7 @@ fn call_in_range<R: Rig>(
     requires range { first_of (range_reasons shape.now call.now) ≡ None }
     requires fits { FitsShape shape.now (R.held rig.old) }
     ensures does { R.astray rig.new ≡ false → TellsOn (λ reply. reply ∷ []) result events.old.items events.new.items (parts_of (R.held rig.new)) (R.wishes rig.new) (run_on (plan_in_range (routing_of_words (R.published rig.old)) shape.now (number_of caller) call.now) (parts_of (R.held rig.old)) (R.wishes rig.old)) }
+    ensures missing { IsMissing result (R.held rig.old) }
     ensures held { SameInHand (R.held rig.old) (R.held rig.new) }
     ensures fits { FitsButTick shape.now (R.held rig.new) }
     ensures published { R.published rig.new ≡ R.published rig.old }

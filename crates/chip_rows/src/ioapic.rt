@@ -79,7 +79,10 @@ fn answers(chip: &mut Ioapic, step: Step) -> bool {
             true
         }
         Due(pin, answer) => chip.resend(pin % 24) == answer,
-        Has(pin, vector, answer) => chip.has_vector(pin % 24, vector) == answer,
+        Has(pin, vector, answer) => {
+            chip.has_vector(pin % 24, vector) == answer
+                && chip.pins_with(vector).has_number(pin % 24) == answer
+        }
     }
 }
 

@@ -2,3 +2,4 @@ pub mod Masks
 pub mod Places
 pub mod Halves
 pub mod PowerOn
+mod Vectors

@@ -1,7 +1,8 @@
 -- Redirection entries: their words, the writes of their halves, and the message of an entry.
 -- 82093AA data sheet, I/O redirection table registers.
-use Rattle.std.specs.Prelude.{◌≡◌, ℕ, ◌+◌, ◌*◌, ◌/◌, ◌%◌, ◌^◌, ◌<◌, Bool, true, false, not, ◌&&◌, nat_eq, if◌then◌else◌}
-use Rattle.irq_bits.specs.Members.{is_set}
+use Rattle.std.specs.Prelude.{◌≡◌, ℕ, ◌+◌, ◌*◌, ◌/◌, ◌%◌, ◌^◌, ◌<◌, Bool, true, false, not, ◌&&◌, nat_eq, if◌then◌else◌, List, slice_index_or}
+use Rattle.std.specs.FinSet as set
+use Rattle.irq_bits.specs.Members.{Numbers, is_set}
 use Rattle.irq_base.specs.declared.message.Message.{Message}
 use Rattle.irq_base.specs.declared.message.Mode.{Mode}
 use Rattle.irq_base.specs.declared.message.Mode.TheVariants.{Fixed, Lowest, Smi, Nmi, Init, ExtInt, Reserved}
@@ -19,6 +20,18 @@ entry_at_power_on = record {
   masked = true;
   destination = 0;
 }
+
+-- the entry of a pin among those of all pins
+abbrev pub entry_in : List Entry → ℕ → Entry
+entry_in entries pin = slice_index_or entries pin entry_at_power_on
+
+-- whether the entry of a pin has that vector
+abbrev pub vector_is : List Entry → ℕ → ℕ → Bool
+vector_is entries vector pin = nat_eq (entry_in entries pin).vector vector
+
+-- the vector of each entry is in the set
+abbrev pub AreIn : List Entry → Numbers → Type 0
+AreIn entries vectors = (pin : ℕ) → pin < 24 → set.contains vectors (entry_in entries pin).vector ≡ true
 
 -- ---- words
 

@@ -1,11 +1,11 @@
 -- The I/O APIC whole: accesses, pins, sends and acknowledges.
 -- 82093AA data sheet, and SDM volume 3, level-triggered interrupts and EOI.
-use Rattle.std.specs.Prelude.{◌≡◌, ℕ, ◌*◌, ◌/◌, ◌%◌, ◌^◌, Bool, false, not, ◌&&◌, ◌||◌, nat_eq, if◌then◌else◌, Some, None, map, replicate, slice_index_or, slice_set}
+use Rattle.std.specs.Prelude.{◌≡◌, ℕ, ◌*◌, ◌/◌, ◌%◌, ◌^◌, Bool, false, not, ◌&&◌, ◌||◌, nat_eq, if◌then◌else◌, Some, None, map, replicate, slice_set}
 use Rattle.std.specs.declared.option.Option.{Option}
 use Rattle.std.specs.FinSet as set
 use Rattle.irq_base.specs.declared.message.Message.{Message}
 use Rattle.reg_table.specs.Rows.{resets}
-use Rattle.ioapic_82093aa.specs.Entries.{entry_at_power_on, low_word, high_word, low_written, high_written, message_of}
+use Rattle.ioapic_82093aa.specs.Entries.{entry_at_power_on, entry_in, low_word, high_word, low_written, high_written, message_of}
 use Rattle.ioapic_82093aa.specs.Registers.{register_of, register_rows}
 use Rattle.ioapic_82093aa.specs.declared.entry.Entry.{Entry}
 use Rattle.ioapic_82093aa.specs.declared.ioapic.Ioapic.{Ioapic}
@@ -20,7 +20,7 @@ ioapic_at_power_on = record { entries = replicate 24 entry_at_power_on; high = s
 
 -- the entry of a pin
 abbrev pub entry_at : Ioapic → ℕ → Entry
-entry_at io pin = slice_index_or io.entries pin entry_at_power_on
+entry_at io pin = entry_in io.entries pin
 
 abbrev pub with_entry_at : Ioapic → ℕ → Entry → Ioapic
 with_entry_at io pin e = record io { entries = slice_set io.entries pin e }

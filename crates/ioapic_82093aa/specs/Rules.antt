@@ -1,5 +1,5 @@
 -- What the operations of 32-bit words are to sets of pins: the laws of words at that width.
-use Rattle.std.proofs.Common.{◌≡◌, ℕ, ◌*◌, ◌/◌, ◌%◌, ◌^◌, ◌<◌, nat_eq, bit_and, bit_or}
+use Rattle.std.proofs.Common.{◌≡◌, ℕ, ◌*◌, ◌/◌, ◌%◌, ◌^◌, ◌<◌, nat_eq, bit_and, bit_or, sym, ap, ◌∙◌, arith}
 use Rattle.std.specs.Int.{w32, bit_not}
 use Rattle.std.specs.FinSet as set
 use Rattle.irq_bits.specs.Members.{members_of, word_of}
@@ -20,4 +20,8 @@ pin-remove word k below = members_of-remove w32 word k below
 pub pin-word : (word : ℕ) → word < 2 ^ 32 → word_of 32 (members_of 32 word) ≡ word
 pin-word word fits = members_of-word 32 word fits
 
-pub ruleset pin_rules = (pin-test, pin-empty, pin-insert, pin-remove, pin-word)
+-- a word and its set are empty together
+pub pin-none : (word : ℕ) → word < 2 ^ 32 → members_of 32 word ≡ set.empty → word ≡ 0
+pin-none word fits e = sym (members_of-word 32 word fits) ∙ ap (word_of 32) (e ∙ sym (members_of-zero 32)) ∙ members_of-word 32 0 (omega arith)
+
+pub ruleset pin_rules = (pin-test, pin-empty, pin-insert, pin-remove, pin-word, pin-none)

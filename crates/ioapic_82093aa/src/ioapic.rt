@@ -1,19 +1,20 @@
 //! The chip.
 ghost use Rattle.std.specs.Prelude.{◌≡◌, ℕ, ◌<◌, IsTrue, IfSome};
+ghost use Rattle.std.specs.FinSet as set;
 ghost use Rattle.ioapic_82093aa.specs.Entries.{WordsTellTheEntry};
 ghost use Rattle.reg_table.specs.Rows.{ResetsAreReadable};
 ghost use Rattle.ioapic_82093aa.specs.Registers.{register_of, register_rows};
 ghost use Rattle.ioapic_82093aa.specs.Pins.{entry_at, ioapic_at_power_on, read_from, write_to, word_of_register, register_written, raised, raise_of, lowered, pin_accepted, pin_acked, has_vector, resend_of, RegistersStartAsTold};
 
-use crate::entry::Entry;
-use crate::pins::{PINS, Pin, Pins};
+use crate::entries::Entries;
+use crate::pins::{Pin, Pins};
 use crate::registers::{Register, Selected, register_at};
 use irq_base::Message;
 
 /// The I/O APIC.
-#[derive(Clone, Copy)]
+#[derive(Drop)]
 pub struct Ioapic {
-    entries: [Entry; PINS],
+    entries: Entries,
     high: Pins,
     /// The index that IOREGSEL keeps.
     selected: u8,
@@ -37,7 +38,7 @@ impl Ioapic {
         ensures { result ≡ ioapic_at_power_on }
     {
         Ioapic {
-            entries: [Entry::power_on(); PINS],
+            entries: Entries::power_on(),
             high: Pins::none(),
             selected: 0,
             identity: 0,
@@ -51,8 +52,8 @@ impl Ioapic {
         match register {
             Register::Identity | Register::Arbitration => (self.identity as u32) << 24,
             Register::Version => 0x0017_0011,
-            Register::LowHalf(pin) => self.entries[pin.place()].low_word(),
-            Register::HighHalf(pin) => self.entries[pin.place()].high_word(),
+            Register::LowHalf(pin) => self.entries.at(pin).low_word(),
+            Register::HighHalf(pin) => self.entries.at(pin).high_word(),
             Register::Reserved => 0,
         }
     }
@@ -84,11 +85,11 @@ impl Ioapic {
                 None
             }
             Register::LowHalf(pin) => {
-                self.entries[pin.place()].write_low(value);
+                self.entries.write_low(pin, value);
                 Some(pin.number())
             }
             Register::HighHalf(pin) => {
-                self.entries[pin.place()].write_high(value);
+                self.entries.write_high(pin, value);
                 Some(pin.number())
             }
             _ => None,
@@ -122,7 +123,7 @@ impl Ioapic {
         let pin = Pin::of(pin);
         let was_high = self.high.has(pin);
         self.high.insert(pin);
-        let entry = self.entries[pin.place()];
+        let entry = self.entries.at(pin);
         let stands = if entry.level {
             entry.remote_irr
         } else {
@@ -150,8 +151,10 @@ impl Ioapic {
         requires { pin < 24 }
         ensures { self.new ≡ pin_accepted self.old pin }
     {
-        let entry = &mut self.entries[pin as usize];
-        entry.remote_irr = entry.level || entry.remote_irr;
+        let pin = Pin::of(pin);
+        let entry = self.entries.at(pin);
+        self.entries
+            .set_remote_irr(pin, entry.level || entry.remote_irr);
     }
 
     /// Whether the entry of a pin, of 0 to 23, is level-triggered.
@@ -159,7 +162,7 @@ impl Ioapic {
         requires { pin < 24 }
         ensures { result ≡ (entry_at self.now pin).level }
     {
-        self.entries[pin as usize].level
+        self.entries.at(Pin::of(pin)).level
     }
 
     /// Whether the entry of a pin, of 0 to 23, has that vector, masked or not.
@@ -167,7 +170,14 @@ impl Ioapic {
         requires { pin < 24 }
         ensures { result ≡ has_vector self.now pin vector }
     {
-        self.entries[pin as usize].vector == vector
+        self.entries.at(Pin::of(pin)).vector == vector
+    }
+
+    /// The pins whose entry has that vector, masked or not.
+    pub fn pins_with(&self, vector: u8) -> Pins
+        ensures { (pin : ℕ) → pin < 24 → set.contains result pin ≡ has_vector self.now pin vector }
+    {
+        self.entries.with(vector)
     }
 
     /// The interrupt of a pin, of 0 to 23, has ended: remote IRR is cleared.
@@ -175,7 +185,7 @@ impl Ioapic {
         requires { pin < 24 }
         ensures { self.new ≡ pin_acked self.old pin }
     {
-        self.entries[pin as usize].remote_irr = false;
+        self.entries.set_remote_irr(Pin::of(pin), false);
     }
 
     /// The message of a pin, of 0 to 23, that is to be sent again: exactly where the pin is high, unmasked and
@@ -185,7 +195,7 @@ impl Ioapic {
         ensures { result ≡ resend_of self.now pin }
     {
         let pin = Pin::of(pin);
-        let entry = self.entries[pin.place()];
+        let entry = self.entries.at(pin);
         let is_due = self.high.has(pin) && !entry.masked && entry.level && !entry.remote_irr;
         if is_due { Some(entry.message()) } else { None }
     }
@@ -194,7 +204,10 @@ impl Ioapic {
     pub fn copy_from(&mut self, other: &Ioapic)
         ensures { self.new ≡ other.now }
     {
-        *self = *other;
+        self.entries.copy_from(&other.entries);
+        self.high = other.high;
+        self.selected = other.selected;
+        self.identity = other.identity;
     }
 }
 

@@ -6,9 +6,11 @@
 //! each acknowledge does. Source: the 82093AA data sheet.
 #![tactic(auto)]
 
+mod entries;
 mod entry;
 mod ioapic;
 mod pins;
 mod registers;
 
 pub use ioapic::{Ioapic, Raise, registers_start_as_told, words_tell_the_entry};
+pub use pins::Pins;

@@ -1,5 +1,5 @@
 //! The pins of the chip, and sets of them.
-ghost use Rattle.std.specs.Prelude.{◌≡◌, ℕ, ◌<◌};
+ghost use Rattle.std.specs.Prelude.{◌≡◌, ℕ, ◌<◌, ◌↔◌, IsTrue};
 ghost use Rattle.std.specs.FinSet as set;
 
 use std::marker::Model;
@@ -85,6 +85,21 @@ impl Pins {
         ensures { result ≡ set.empty }
     {
         Pins { word: 0 }
+    }
+
+    /// Whether no pin is in the set.
+    pub fn is_empty(&self) -> bool
+        ensures { IsTrue result ↔ (self.now ≡ set.empty) }
+    {
+        self.word == 0
+    }
+
+    /// Whether the pin of that number, of 0 to 23, is in the set.
+    pub fn has_number(&self, pin: u8) -> bool
+        requires { pin < 24 }
+        ensures { result ≡ set.contains self.now pin }
+    {
+        self.has(Pin::of(pin))
     }
 
     /// Whether the pin is in the set.

@@ -4,7 +4,7 @@ use Rattle.board_calls.proofs.Numbers.{given_number}
 use Rattle.board_calls.specs.Processors.{hears_pair}
 use Rattle.board_calls.specs.Own.{pair_heard}
 use Rattle.board_calls.proofs.Own.{changed_held, changed_fits}
-use Rattle.board_calls.proofs.Asking.{pair_in, answers_pair}
+use Rattle.board_calls.proofs.Asking.{pair_in, pair_missing, answers_pair}
 use Rattle.board_calls.proofs.asks.answer_own.Goals as goal
 
 pub returns-then-take_nmi-clause-held : goal.returns-then-take_nmi-clause-held
@@ -12,6 +12,9 @@ returns-then-take_nmi-clause-held c = changed_held c.args.parts.now c.args.n c.i
 
 pub returns-then-take_nmi-clause-fits : goal.returns-then-take_nmi-clause-fits
 returns-then-take_nmi-clause-fits c = changed_fits c.args.parts.now c.args.n c.in-Some.lapic.now c.in-Some.ensures.value c.take_nmi.new.self (ap (λ (a : LocalApic). a.number) c.take_nmi.ensures.after)
+
+pub returns-in-Err-clause-missing : goal.returns-in-Err-clause-missing
+returns-in-Err-clause-missing c = pair_missing (hears_pair c.args.n c.take_nmi.new.self) c.args.parts.now c.in-Err.lacks (sym c.pair_gives.ensures ∙ c.in-Err.is)
 
 pub returns-in-Err-clause-held : goal.returns-in-Err-clause-held
 returns-in-Err-clause-held c = changed_held c.args.parts.now c.args.n c.in-Some.lapic.now c.in-Some.ensures.value c.take_nmi.new.self

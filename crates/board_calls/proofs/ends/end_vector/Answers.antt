@@ -1,5 +1,6 @@
-use Rattle.std.proofs.Common.{ℕ, List, Bool, [], Ok, Err, refl, sym, subst}
+use Rattle.std.proofs.Common.{ℕ, List, [], Ok, Err, refl, sym, subst}
 use Rattle.std.specs.declared.option.Option.{Option}
+use Rattle.irq_bits.specs.Members.{Numbers}
 use Rattle.board_model.specs.Published.{routing_of_words}
 use Rattle.board_model.specs.Run.{run_on}
 use Rattle.board_raise.specs.InHand.{parts_of}
@@ -39,7 +40,7 @@ returns-in-Ok-clause-does g c = λ straight.
     let seen = pins_seen c.in-Some.vector in
     subst (λ (v : Option ℕ). TellsOn (λ (_ : Unit {0}). []) c.acknowledge_marked.result c.args.events.now.items c.acknowledge_marked.new.events.items s later (run_on (end_vector routing shape v) q ws)) (sym c.in-Some.is)
     (second_tells seen (acknowledge_each routing shape) q ws (λ (_ : Unit {0}). []) (pins_marked c.in-Ok.marks) r vs
-    (does_on (λ (marks : List Bool). pins_marked marks) (Ok c.in-Ok.marks) seen (g.R.Rig.held rig) lent lent (g.R.Rig.held mid) ws vs c.parts.ensures.value (g.met.R.Rig.held_with rig lent) (g.met.R.Rig.wishes_with rig lent) (c.in-Ok.ensures ws))
+    (does_on (λ (marks : Numbers). pins_marked marks) (Ok c.in-Ok.marks) seen (g.R.Rig.held rig) lent lent (g.R.Rig.held mid) ws vs c.parts.ensures.value (g.met.R.Rig.held_with rig lent) (g.met.R.Rig.wishes_with rig lent) (c.in-Ok.ensures.does ws))
     c.acknowledge_marked.result c.args.events.now.items c.acknowledge_marked.new.events.items s later
     (adds_tells c.args.events.now.items c.acknowledge_marked.new.events.items s later c.acknowledge_marked.result (run_on (acknowledge_each routing shape (pins_marked c.in-Ok.marks)) r vs)
     (subst (λ (words : List ℕ). Adds c.acknowledge_marked.result c.args.events.now.items c.acknowledge_marked.new.events.items s later (run_on (acknowledge_each (routing_of_words words) shape (pins_marked c.in-Ok.marks)) r vs))
@@ -56,4 +57,4 @@ returns-in-Err-clause-does g c = λ straight.
     let seen = pins_seen c.in-Some.vector in
     subst (λ (v : Option ℕ). StopsAt c.in-Err.lacks.part (run_on (end_vector routing shape v) q ws)) (sym c.in-Some.is)
     (stops_first (acknowledge_each routing shape) seen q ws c.in-Err.lacks.part
-    (does_on (λ (marks : List Bool). pins_marked marks) (Err c.in-Err.lacks) seen (g.R.Rig.held rig) lent lent lent ws ws c.parts.ensures.value refl refl (c.in-Err.ensures ws)))
+    (does_on (λ (marks : Numbers). pins_marked marks) (Err c.in-Err.lacks) seen (g.R.Rig.held rig) lent lent lent ws ws c.parts.ensures.value refl refl (c.in-Err.ensures.does ws)))

@@ -14,6 +14,7 @@ returns-in_default g c =
           quiet_tells c.quiet_registration.result c.args.events.now.items (parts_of (g.R.Rig.held after)) (g.R.Rig.wishes after)
           (run_on (plan_in_range (routing_of_words (g.R.Rig.published rig)) c.args.shape.now n c.args.call.now) (parts_of (g.R.Rig.held rig)) (g.R.Rig.wishes rig))
           (c.quiet_registration.ensures.does n straight);
+      missing = c.quiet_registration.ensures.missing;
       held = c.quiet_registration.ensures.held;
       fits = c.quiet_registration.ensures.fits;
       published = c.quiet_registration.ensures.published;

@@ -1,0 +1,6 @@
+use Rattle.std.proofs.Common.{◌≡◌, take}
+use Rattle.board_step.proofs.same.same_events.Given as goal
+
+-- the events before k are equal
+abbrev pub invariant-loop-k : goal.invariant-loop-k
+invariant-loop-k l = take l.k l.events ≡ take l.k l.others

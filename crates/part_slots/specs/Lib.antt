@@ -1,0 +1,5 @@
+pub mod Callers
+pub mod Slots
+pub mod Running
+pub mod Histories
+pub mod Commits
