@@ -80,7 +80,7 @@ pub written_back : {A : Type 0} (n : ℕ) (new rest : List A) → n ≡ length n
 written_back n new rest is = ap (λ k. take k (new ++ rest)) is ∙ take-append_seam new rest
 
 pub true-false : (t : Bool) → t ≡ true → t ≡ false → ⊥
-true-false t yes not_so = wrong (sym yes ∙ not_so)
+true-false t is other = wrong (sym is ∙ other)
   where
     wrong : true ≡ false → ⊥
     wrong e = cc
