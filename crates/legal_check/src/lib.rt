@@ -1,0 +1,11 @@
+//! The checker: whether a transcript is one legal run of a script on the one-thread board, and where it is not.
+#![tactic(auto)]
+
+mod actors;
+mod checking;
+mod ending;
+mod same;
+mod verdict;
+
+pub use checking::check;
+pub use verdict::{Flaw, Verdict};
