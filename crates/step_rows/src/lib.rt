@@ -4,4 +4,3 @@
 #[cfg(test)]
 mod boards;
 #[cfg(test)]
-mod faces;
