@@ -1,6 +1,5 @@
-//! Tests of the board as a value: shapes, a board's parts, and a face over it.
+//! Tests of the board as a value: shapes, and a board's parts.
 #![tactic(auto)]
 
 #[cfg(test)]
 mod boards;
-#[cfg(test)]
