@@ -1,0 +1,10 @@
+mod RowCopies
+mod Turns
+mod Loops
+mod Registrations
+mod Barred
+mod Merged
+mod Ordered
+mod Lines
+mod Firsts
+mod Answering

@@ -1,0 +1,4 @@
+pub mod Merging
+pub mod FileOrder
+pub mod Replays
+pub mod Played
