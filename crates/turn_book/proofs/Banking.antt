@@ -22,6 +22,11 @@ pub place-within : (n w i : ℕ) (second : Bool) → i < w → place n w second 
 place-within n w i true h = omega arith
 place-within n w i false h = omega arith
 
+-- a word stands as far behind where its bank begins as its index says
+pub place-from : (n w i : ℕ) (second : Bool) → place n w second i ≡ place n w second 0 + i
+place-from n w i true = omega arith
+place-from n w i false = omega arith
+
 -- the banks lie apart
 pub place-apart : (n w i j : ℕ) (second : Bool) → i < w → j < w → place n w (not second) i ≢ place n w second j
 place-apart n w i j true a b e = omega arith

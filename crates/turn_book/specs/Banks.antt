@@ -36,6 +36,10 @@ module _ {S E P : Type 0} where
   abbrev pub HasRegistry : View S E P → Type 0
   HasRegistry v = is_some (held_at 0 v.held) ≡ true
 
+  -- In a table with n turns and banks of w words, the spare bank of the generation that the view knows begins here
+  abbrev pub IsSpareBank : ℕ → ℕ → View S E P → ℕ → Type 0
+  IsSpareBank n w v begin = IfSome v.knows (λ g. begin ≡ place n w (not (is_odd g)) 0)
+
   -- each note of the list's generation has the value that is published in the state that the list leaves
   abbrev pub NotesAreRight : (S → List ℕ) → (E → Bool) → View S E P → Type 0
   NotesAreRight published is_publication v = IfSome v.now (λ s. All (IsRight (published s) (count_by is_publication v.seen)) v.notes)

@@ -75,3 +75,4 @@ pub use lend::part_of;
 pub use machine::{Entering, Machine};
 pub use pen::Pen;
 pub use view::Front;
+pub use words::SpareBank;

@@ -1,18 +1,14 @@
-use Rattle.std.proofs.Common.{◌≡◌, ◌<◌, ◌%◌, ℕ, length, not, arith, subst, sym, ap, ◌∙◌}
-use Rattle.std.proofs.lemmas.Bool.Decides.{nat_tests}
-use Rattle.std.specs.Prelude.{Some, nat_eq}
+use Rattle.std.proofs.Common.{◌≡◌, ◌+◌, ◌<◌, ℕ, length, not, true, false, refl, arith, subst, sym, ap, ◌∙◌}
+use Rattle.std.specs.Prelude.{Some, IfSome}
 use mathlib.Core.Option.{none}
 use Rattle.atomic_table.specs.Table.{step, Allows}
 use Rattle.turn_book.specs.Banks.{place, is_odd}
 use Rattle.turn_book.specs.Rule.{IsKept, workings}
 use Rattle.turn_book.specs.Plays.{DraftsWord}
 use Rattle.turn_book.proofs.Lists.{has}
+use Rattle.turn_book.proofs.Banking.{place-from, place-within}
 use Rattle.turn_book.proofs.Drafting.{draft_allows}
 use Rattle.turn_book.proofs.book.TurnBook.spare_named.Goals as goal
-
--- the spare bank is the second where the generation is even
-even : (g : ℕ) → nat_eq (g % 2) 0 ≡ not (is_odd g)
-even g = grind (arith, nat_tests)
 
 pub store-requires : goal.store-requires
 store-requires g c =
@@ -26,13 +22,17 @@ store-requires g c =
     let pen = c.args.pen.now in
     let i = c.args.index in
     let x = c.args.value in
-    let p = c.place-place.result in
+    let p = c.args.bank.begin + i in
     let (h, knows) = has pen.seat.me.0.knows c.requires.knows in
     let same : pen.seat.me.0.knows ≡ Some pen.known = knows ∙ ap (λ k. Some k) (pen.knows_only h knows) in
-    let at : place n size (not (is_odd pen.known)) i ≡ p = ap (λ b. place n size b i) (sym (even pen.known)) ∙ ap (λ k. place n k (nat_eq (pen.known % 2) 0) i) (sym book.bank_width) ∙ sym c.place-place.ensures.place in
-    let low : i < size = (let inside = c.requires.index in let wide = book.bank_width in omega arith) in (
+    let odd = not (is_odd pen.known) in
+    let begins : c.args.bank.begin ≡ place n book.width odd 0 = subst (λ k. IfSome k (λ g. c.args.bank.begin ≡ place n book.width (not (is_odd g)) 0)) same c.requires.bank in
+    let here : place n book.width odd i ≡ p = place-from n book.width i odd ∙ ap (λ b. b + i) (sym begins) in
+    let at : place n size odd i ≡ p = ap (λ k. place n k odd i) (sym book.bank_width) ∙ here in
+    let low : i < size = (let inside = c.requires.index in let wide = book.bank_width in omega arith) in
+    let within : p < shared.table_id.words = (let a = place-within n book.width i odd c.requires.index in let b = book.wide in let e = here in omega arith) in (
       c.requires.book,
-      c.place-place.ensures.within,
+      within,
       subst (λ o. Allows (IsKept w opening size) n pen.seat.id pen.seat.me p (λ _. x) (λ _. DraftsWord o (step n p x 0 none) pen.seat.me x)) (sym c.requires.named)
           (subst (λ k. Allows (IsKept w opening size) n pen.seat.id pen.seat.me k (λ _. x) (λ _. DraftsWord (Some i) (step n p x 0 none) pen.seat.me x)) at
           (draft_allows w opening size n pen.seat.id i x pen.known pen.seat.me (step n p x 0 none) pen.live same low)),
