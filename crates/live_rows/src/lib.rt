@@ -1,0 +1,5 @@
+// Tests of a running board.
+#![tactic(auto)]
+
+#[cfg(test)]
+mod rows;

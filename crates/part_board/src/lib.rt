@@ -1,0 +1,28 @@
+//! A running board: its parts stand behind turns, and its routing is published.
+//!
+//! `LiveBoard` is shared by threads; it holds one book of turns. `Desk` makes the passes, one for each caller. A `Pass` is one
+//! caller's way to the board: it knows a list of entries, which begins the one legal history of the board. A `Note` carries what
+//! a pass has seen to another pass, or to the desk.
+//!
+//! Reading order of the definitions: `Callers` (sets of callers), `Seen` (what a pass, a note and a desk know), `Closing` (how a
+//! board ends).
+#![tactic(auto)]
+
+mod callers;
+mod closed;
+mod closing;
+mod desk;
+mod error;
+mod gathering;
+mod learning;
+mod live;
+mod note;
+mod opening;
+mod pass;
+
+pub use closed::{Closed, Missing};
+pub use desk::Desk;
+pub use error::PassError;
+pub use live::LiveBoard;
+pub use note::Note;
+pub use pass::Pass;

@@ -1,0 +1,13 @@
+//! Room for working copies of the parts of a running board.
+//!
+//! While a call works on copies, each slot keeps its part as it was. To undo is to drop the copies; where the call has its
+//! entry, the copies are written back. All memory is taken when the room is made: copies are made over what stood there before.
+//!
+//! Reading order of the definitions: `Copied` (what is taken in of a slot, and written back), `Rooms`.
+#![tactic(auto)]
+
+mod room;
+mod row;
+mod slots;
+
+pub use room::Room;
