@@ -1,7 +1,7 @@
 -- Endings are judged by what each actor asks next.
-use Rattle.std.proofs.Common.{◌≡◌, ℕ, zero, suc, ◌+◌, ◌<◌, ◌≤◌, ◌↔◌, inl, inr, Bool, true, false, IsTrue, List, [], ◌∷◌, is_some, refl, ap, sym, ◌∙◌, subst, Some, None, arith}
+use Rattle.std.proofs.Common.{◌≡◌, ℕ, ◌+◌, ◌<◌, ◌≤◌, ◌↔◌, inl, inr, Bool, true, false, IsTrue, List, is_some, refl, ap, sym, ◌∙◌, subst, Some, None, arith}
 use Rattle.std.specs.declared.option.Option.{Option}
-use Rattle.std.proofs.lemmas.Bool.Decides.{nat_tests, eqb_tells}
+use Rattle.std.proofs.lemmas.Bool.Decides.{eqb_tells}
 use Rattle.irq_base.specs.declared.call.Call.{Call}
 use Rattle.irq_base.specs.declared.call.Caller.{Caller}
 use Rattle.irq_base.specs.declared.lists.Entry.{Entry}

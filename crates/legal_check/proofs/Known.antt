@@ -1,22 +1,19 @@
 -- The actors of a script are its callers with lines, each once; each follows the replies that its own caller gets.
-use Rattle.std.proofs.Common.{◌≡◌, ℕ, zero, suc, ◌+◌, ◌<◌, ◌≤◌, ◌⊎◌, inl, inr, Bool, true, false, cond, not, nat_eq, nat_lt, List, [], ◌∷◌, ◌++◌, length, map, filter, fold, replicate, get_or, set, refl, ap, sym, ◌∙◌, subst, if◌then◌else◌, ltb-true, ltb-false, Some, None, arith}
-use Rattle.std.specs.declared.option.Option.{Option}
+use Rattle.std.proofs.Common.{◌≡◌, ℕ, suc, ◌<◌, ◌≤◌, ◌⊎◌, inl, inr, Bool, true, false, cond, not, nat_lt, List, [], ◌∷◌, ◌++◌, length, filter, replicate, get_or, set, refl, ap, sym, ◌∙◌, subst, if◌then◌else◌, ltb-true, ltb-false, None, arith}
 use Rattle.std.specs.List.{IsDistinct, AllByRecursion}
-use Rattle.std.proofs.lemmas.List.{append-nil, get_or-replicate, get_or-set_same, get_or-set_other, length-replicate, length-set, map-append}
-use Rattle.std.proofs.lemmas.List.Elements.{filter-append}
+use Rattle.std.proofs.lemmas.List.{get_or-replicate, get_or-set_same, get_or-set_other, length-replicate, length-set}
 use Rattle.std.proofs.lemmas.Map.Keys.{apart_from_distinct}
-use Rattle.std.proofs.lemmas.Bool.Decides.{nat_tests, eqb_tells}
-use Rattle.irq_base.specs.declared.call.Call.{Call}
+use Rattle.std.proofs.lemmas.Bool.Decides.{eqb_tells}
 use Rattle.irq_base.specs.declared.call.Caller.{Caller}
-use Rattle.irq_base.specs.declared.call.Caller.TheVariants.{Device, Cpu}
+use Rattle.irq_base.specs.declared.call.Caller.TheVariants.{Device}
 use Rattle.irq_base.specs.declared.lists.Entry.{Entry}
 use Rattle.irq_base.specs.declared.reply.Reply.{Reply}
 use Rattle.script_text.specs.declared.task.ActorLine.{ActorLine}
 use Rattle.script_text.specs.declared.progress.Progress.{Progress}
-use Rattle.script_text.specs.Asks.{Asks, no_more, answered, next_call, unrolled, same_caller, actors_of, caller_at, tasks_of, next_ask, HasFollowed}
+use Rattle.script_text.specs.Asks.{same_caller, actors_of, caller_at, tasks_of, HasFollowed}
 use Rattle.script_text.specs.Scripts.{Script}
 use Rattle.script_histories.specs.Merging.{replies_of, next_of}
-use Rattle.script_histories.proofs.Callers.{callers_same, same_callers, callers_apart}
+use Rattle.script_histories.proofs.Callers.{callers_same, callers_apart}
 use Rattle.script_histories.proofs.Asking.{tasks_nothing, tasks_of_line, lineless_ask_nothing}
 use Rattle.script_histories.proofs.Merged.{no_replies, own_reply, others_reply}
 use Rattle.legal_check.specs.Standing.{actors_in, progress_at, HaveFollowed}

@@ -1,5 +1,5 @@
 -- A transcript has one verdict: before a flaw, and in a legal run, no entry has a flaw.
-use Rattle.std.proofs.Common.{◌≡◌, ℕ, zero, suc, ◌<◌, ◌≤◌, Bool, true, false, nat_lt, List, [], ◌∷◌, ◌++◌, length, take, slice_get, refl, ap, sym, ◌∙◌, subst, append_assoc, ltb-true, ltb-false, Some, None, arith}
+use Rattle.std.proofs.Common.{◌≡◌, ℕ, zero, suc, ◌<◌, ◌≤◌, Bool, true, false, nat_lt, List, [], ◌∷◌, ◌++◌, length, take, slice_get, refl, sym, ◌∙◌, subst, append_assoc, ltb-true, ltb-false, Some, None, arith}
 use Rattle.std.proofs.lemmas.List.{append-nil}
 use Rattle.std.proofs.lemmas.Option.{slice_get_within}
 use Rattle.irq_base.specs.declared.lists.Entry.{Entry}
@@ -13,10 +13,9 @@ use Rattle.script_text.specs.Scripts.{Script}
 use Rattle.transcript.specs.declared.transcript.Transcript.{Transcript}
 use Rattle.legal_check.specs.declared.verdict.Flaw.{Flaw}
 use Rattle.legal_check.specs.declared.verdict.Flaw.TheVariants.{Asked, Reply, Ending}
-use Rattle.legal_check.specs.declared.verdict.Verdict.{Verdict}
 use Rattle.legal_check.specs.declared.verdict.Verdict.TheVariants.{Legal, NotAt}
 use Rattle.script_histories.specs.Merging.{IsAsked, Merges, Stand, EndsWell, Fits}
-use Rattle.legal_check.specs.Verdicts.{FlawAt, IsVerdict, HasOneVerdict}
+use Rattle.legal_check.specs.Verdicts.{FlawAt, HasOneVerdict}
 use Rattle.legal_check.proofs.Tried.{whole}
 
 inner : {A : Type 0} (x y : A) → Some x ≡ Some y → x ≡ y

@@ -1,12 +1,10 @@
 -- Entries without a flaw, one after another, and verdicts.
-use Rattle.std.proofs.Common.{◌≡◌, ℕ, zero, suc, ◌≤◌, Bool, true, false, List, [], ◌∷◌, ◌++◌, length, take, slice_get, refl, ap, sym, ◌∙◌, subst, append_assoc, Some, arith}
-use Rattle.std.proofs.lemmas.List.{append-nil}
+use Rattle.std.proofs.Common.{◌≡◌, ℕ, zero, suc, ◌≤◌, Bool, true, false, List, [], ◌∷◌, ◌++◌, length, take, slice_get, refl, ap, sym, ◌∙◌, subst, Some, arith}
 use Rattle.std.proofs.Math.Seq.{take-append_seam}
 use Rattle.irq_base.specs.declared.lists.Entry.{Entry}
 use Rattle.irq_base.specs.declared.shape.Shape.{Shape}
 use Rattle.board_model.specs.Board.{Board}
-use Rattle.board_step.specs.Step.{Step}
-use Rattle.board_step.specs.History.{opening, Leads}
+use Rattle.board_step.specs.History.{opening}
 use Rattle.board_step.specs.Publications.{StepsKeepTheFrame}
 use Rattle.script_text.specs.declared.progress.Progress.{Progress}
 use Rattle.script_text.specs.Scripts.{Script}

@@ -1,25 +1,24 @@
 -- A history in file order merges, and ends rightly.
-use Rattle.std.proofs.Common.{◌≡◌, Bool, true, false, List, [], ◌∷◌, ◌++◌, append_assoc, fold, if◌then◌else◌, is_some, Some, None, refl, sym, ap, ◌∙◌, subst}
+use Rattle.std.proofs.Common.{◌≡◌, Bool, true, false, List, [], ◌∷◌, ◌++◌, append_assoc, if◌then◌else◌, is_some, Some, None, refl, sym, ap, ◌∙◌, subst}
 use Rattle.std.proofs.lemmas.List.{append-nil}
 use Rattle.std.specs.declared.option.Option.{Option}
 use Rattle.irq_base.specs.declared.call.Call.{Call}
 use Rattle.irq_base.specs.declared.call.Caller.{Caller}
 use Rattle.irq_base.specs.declared.lists.Entry.{Entry}
-use Rattle.irq_base.specs.declared.reply.Reply.{Reply}
 use Rattle.irq_base.specs.declared.reply.Spent.{Spent}
 use Rattle.script_text.specs.declared.task.ActorLine.{ActorLine}
-use Rattle.script_text.specs.Asks.{Asks, no_more, same_caller, next_call, answered, line_asks, unrolled, tasks_of, asks_after}
+use Rattle.script_text.specs.Asks.{Asks, no_more, same_caller, next_call, line_asks, unrolled, tasks_of, asks_after}
 use Rattle.script_text.specs.Scripts.{Script}
 use Rattle.board_model.specs.Board.{Board}
 use Rattle.board_step.specs.History.{opening, Leads}
 use Rattle.board_step.specs.Step.{spent_of}
 use Rattle.replaying.specs.declared.stops.Stop.{Stop}
-use Rattle.replaying.specs.FileOrder.{stop_of, with_stop, Leaves, Asked, LineAsked, PassedOver, LinesAsked, first_stop, InFileOrder}
-use Rattle.script_histories.specs.Merging.{replies_of, next_of, Merges, Stand, IsWhole, AreBarred, EndsWell, Fits}
+use Rattle.replaying.specs.FileOrder.{stop_of, with_stop, Leaves, LineAsked, PassedOver, LinesAsked, first_stop}
+use Rattle.script_histories.specs.Merging.{replies_of, next_of, Merges, IsWhole, AreBarred, EndsWell}
 use Rattle.script_histories.proofs.Callers.{callers_same, caller_itself}
 use Rattle.script_histories.proofs.Asking.{tasks_nothing, tasks_of_line, unrolled_nothing, unrolled_line, lineless_ask_nothing}
 use Rattle.script_histories.proofs.Merged.{no_replies, merges_append, leads_append}
-use Rattle.replaying.specs.Replays.{run_of, Replays}
+use Rattle.replaying.specs.Replays.{Replays}
 use Rattle.replaying.proofs.Barred.{stays_barred}
 use Rattle.replaying.proofs.Merged.{after, in_turn, others_stay}
 

@@ -1,5 +1,5 @@
 -- Calls of one caller, one after another.
-use Rattle.std.proofs.Common.{◌≡◌, true, List, [], ◌∷◌, ◌++◌, append_assoc, Some, None, Ok, Err, IfOk, refl, sym, ap, ◌∙◌, subst}
+use Rattle.std.proofs.Common.{◌≡◌, List, [], ◌∷◌, ◌++◌, append_assoc, Some, None, Ok, Err, IfOk, refl, sym, ap, ◌∙◌, subst}
 use Rattle.std.proofs.lemmas.List.{append-nil}
 use Rattle.std.specs.declared.option.Option.{Option}
 use Rattle.std.specs.declared.result.Result.{Result}
@@ -9,12 +9,11 @@ use Rattle.irq_base.specs.declared.lists.Entry.{Entry}
 use Rattle.irq_base.specs.declared.lists.NoMemory.{NoMemory}
 use Rattle.irq_base.specs.declared.reply.Reply.{Reply}
 use Rattle.irq_base.specs.declared.reply.Spent.{Spent}
-use Rattle.script_text.specs.Asks.{Asks, ask, once, next_call, answered}
+use Rattle.script_text.specs.Asks.{Asks, ask, once, answered}
 use Rattle.board_model.specs.Board.{Board}
-use Rattle.board_step.specs.History.{Leads}
 use Rattle.board_step.specs.Step.{spent_of}
 use Rattle.script_histories.proofs.Merged.{leads_append}
-use Rattle.replaying.specs.FileOrder.{AsksInTurn, Leaves, Asked}
+use Rattle.replaying.specs.FileOrder.{AsksInTurn}
 use Rattle.replaying.specs.Played.{Answered, Played}
 
 asks-append : (who : Caller) (asks mid left : Asks) (es fs : List Entry) → AsksInTurn who asks es mid → AsksInTurn who mid fs left → AsksInTurn who asks (es ++ fs) left

@@ -1,4 +1,4 @@
-use Rattle.std.proofs.Common.{◌≡◌, ◌+◌, ◌≤◌, List, length, take, ap, sym, ◌∙◌, subst, arith}
+use Rattle.std.proofs.Common.{◌+◌, ◌≤◌, List, length, take, sym, ◌∙◌, subst, arith}
 use Rattle.board_step.proofs.Listed.{take_there}
 use Rattle.script_text.specs.declared.progress.Progress.{Progress}
 use Rattle.legal_check.specs.Standing.{HaveFollowed}
