@@ -1,7 +1,7 @@
 -- Endings are judged by what each actor asks next.
-use Rattle.std.proofs.Common.{◌≡◌, ℕ, zero, suc, ◌+◌, ◌<◌, ◌≤◌, ◌↔◌, inl, inr, Bool, true, false, IsTrue, List, [], ◌∷◌, is_some, refl, ap, sym, ◌∙◌, subst, Some, None, arith}
+use Rattle.std.proofs.Common.{◌≡◌, ℕ, ◌+◌, ◌<◌, ◌≤◌, ◌↔◌, inl, inr, Bool, true, false, IsTrue, List, is_some, refl, ap, sym, ◌∙◌, subst, Some, None, arith}
 use Rattle.std.specs.declared.option.Option.{Option}
-use Rattle.std.proofs.lemmas.Bool.Decides.{nat_tests, eqb_tells}
+use Rattle.std.proofs.lemmas.Bool.Decides.{eqb_tells}
 use Rattle.irq_base.specs.declared.call.Call.{Call}
 use Rattle.irq_base.specs.declared.call.Caller.{Caller}
 use Rattle.irq_base.specs.declared.lists.Entry.{Entry}
@@ -9,8 +9,7 @@ use Rattle.board_model.specs.Board.{Board}
 use Rattle.board_step.specs.Step.{spent_of}
 use Rattle.script_text.specs.Asks.{caller_at}
 use Rattle.script_text.specs.Scripts.{Script}
-use Rattle.legal_check.specs.Merging.{next_of, IsWhole}
-use Rattle.legal_check.specs.Verdicts.{AreBarred}
+use Rattle.script_histories.specs.Merging.{next_of, IsWhole, AreBarred}
 use Rattle.legal_check.specs.Standing.{actors_in}
 use Rattle.legal_check.proofs.Known.{of-actors}
 

@@ -1,50 +1,22 @@
 -- The actors of a script are its callers with lines, each once; each follows the replies that its own caller gets.
-use Rattle.std.proofs.Common.{◌≡◌, ℕ, zero, suc, ◌+◌, ◌<◌, ◌≤◌, ◌⊎◌, inl, inr, Bool, true, false, cond, not, nat_eq, nat_lt, List, [], ◌∷◌, ◌++◌, length, map, filter, fold, replicate, get_or, set, refl, ap, sym, ◌∙◌, subst, if◌then◌else◌, ltb-true, ltb-false, Some, None, arith}
-use Rattle.std.specs.declared.option.Option.{Option}
+use Rattle.std.proofs.Common.{◌≡◌, ℕ, suc, ◌<◌, ◌≤◌, ◌⊎◌, inl, inr, Bool, true, false, cond, not, nat_lt, List, [], ◌∷◌, ◌++◌, length, filter, replicate, get_or, set, refl, ap, sym, ◌∙◌, subst, if◌then◌else◌, ltb-true, ltb-false, None, arith}
 use Rattle.std.specs.List.{IsDistinct, AllByRecursion}
-use Rattle.std.proofs.lemmas.List.{append-nil, get_or-replicate, get_or-set_same, get_or-set_other, length-replicate, length-set, map-append}
-use Rattle.std.proofs.lemmas.List.Elements.{filter-append}
+use Rattle.std.proofs.lemmas.List.{get_or-replicate, get_or-set_same, get_or-set_other, length-replicate, length-set}
 use Rattle.std.proofs.lemmas.Map.Keys.{apart_from_distinct}
-use Rattle.std.proofs.lemmas.Bool.Decides.{nat_tests, eqb_tells}
-use Rattle.irq_base.specs.declared.call.Call.{Call}
+use Rattle.std.proofs.lemmas.Bool.Decides.{eqb_tells}
 use Rattle.irq_base.specs.declared.call.Caller.{Caller}
-use Rattle.irq_base.specs.declared.call.Caller.TheVariants.{Device, Cpu}
+use Rattle.irq_base.specs.declared.call.Caller.TheVariants.{Device}
 use Rattle.irq_base.specs.declared.lists.Entry.{Entry}
 use Rattle.irq_base.specs.declared.reply.Reply.{Reply}
 use Rattle.script_text.specs.declared.task.ActorLine.{ActorLine}
 use Rattle.script_text.specs.declared.progress.Progress.{Progress}
-use Rattle.script_text.specs.Asks.{Asks, no_more, answered, next_call, unrolled, same_caller, actors_of, caller_at, tasks_of, next_ask, HasFollowed}
+use Rattle.script_text.specs.Asks.{same_caller, actors_of, caller_at, tasks_of, HasFollowed}
 use Rattle.script_text.specs.Scripts.{Script}
-use Rattle.legal_check.specs.Merging.{replies_of, next_of}
+use Rattle.script_histories.specs.Merging.{replies_of, next_of}
+use Rattle.script_histories.proofs.Callers.{callers_same, callers_apart}
+use Rattle.script_histories.proofs.Asking.{tasks_nothing, tasks_of_line, lineless_ask_nothing}
+use Rattle.script_histories.proofs.Merged.{no_replies, own_reply, others_reply}
 use Rattle.legal_check.specs.Standing.{actors_in, progress_at, HaveFollowed}
-
--- ---- callers
-
-same-number : (a b : ℕ) → nat_eq a b ≡ true → a ≡ b
-same-number a b h = grind (arith, nat_tests, h)
-
-own-number : (a : ℕ) → nat_eq a a ≡ true
-own-number a = grind (arith, nat_tests)
-
-same-is : (a b : Caller) → same_caller a b ≡ true → a ≡ b
-same-is (Device a) (Device b) h = ap (λ n. Device n) (same-number a b h)
-same-is (Cpu a) (Cpu b) h = ap (λ n. Cpu n) (same-number a b h)
-same-is (Device a) (Cpu b) h = absurd (cc)
-same-is (Cpu a) (Device b) h = absurd (cc)
-
-own-is : (a : Caller) → same_caller a a ≡ true
-own-is (Device a) = own-number a
-own-is (Cpu a) = own-number a
-
-is-same : (a b : Caller) → a ≡ b → same_caller a b ≡ true
-is-same a b h = subst (λ (c : Caller). same_caller a c ≡ true) h (own-is a)
-
-swapped : (a b : Caller) → same_caller a b ≡ false → same_caller b a ≡ false
-swapped a b other = go (same_caller b a) (same-is b a)
-  where
-    go : (t : Bool) → (t ≡ true → b ≡ a) → t ≡ false
-    go true is = sym (is-same a b (sym (is refl))) ∙ other
-    go false is = refl
 
 -- ---- whether a caller has lines
 
@@ -62,7 +34,7 @@ found-step who c cs false is rest h = let (k, below, at) = rest h in (suc k, ome
 
 knows-found : (who : Caller) (cs : List Caller) → knows who cs ≡ true → Found who cs
 knows-found who [] h = absurd (cc)
-knows-found who (c ∷ cs) h = found-step who c cs (same_caller c who) (same-is c who) (knows-found who cs) h
+knows-found who (c ∷ cs) h = found-step who c cs (same_caller c who) (callers_same c who) (knows-found who cs) h
 
 kept-step : (who x c : Caller) (cs kept : List Caller) → same_caller x who ≡ false → knows who kept ≡ knows who cs → (b : Bool) → (b ≡ true → c ≡ x) →
     knows who (cond (not b) (c ∷ kept) kept) ≡ knows who (c ∷ cs)
@@ -74,7 +46,7 @@ kept-step who x c cs kept other rest false is = ap (λ (t : Bool). if same_calle
 knows-kept : (who x : Caller) (cs : List Caller) → same_caller x who ≡ false → knows who (filter (λ c. not (same_caller c x)) cs) ≡ knows who cs
 knows-kept who x [] other = refl
 knows-kept who x (c ∷ cs) other =
-    kept-step who x c cs (filter (λ c. not (same_caller c x)) cs) other (knows-kept who x cs other) (same_caller c x) (same-is c x)
+    kept-step who x c cs (filter (λ c. not (same_caller c x)) cs) other (knows-kept who x cs other) (same_caller c x) (callers_same c x)
 
 actors-first : (x : ActorLine) (lines : List ActorLine) →
     actors_of (x ∷ lines) ≡ x.caller ∷ filter (λ c. not (same_caller c x.caller)) (actors_of lines)
@@ -86,14 +58,7 @@ unfolding actors_of
 actors-none = refl
 
 tasks-later : (who : Caller) (x : ActorLine) (lines : List ActorLine) → same_caller x.caller who ≡ false → tasks_of who (x ∷ lines) ≡ tasks_of who lines
-unfolding tasks_of
-tasks-later who x lines other =
-    let rest = filter (λ (line : ActorLine). same_caller line.caller who) lines in
-    ap (λ (b : Bool). map (λ (line : ActorLine). line.task) (cond b (x ∷ rest) rest)) other
-
-tasks-none : (who : Caller) → tasks_of who [] ≡ []
-unfolding tasks_of
-tasks-none who = refl
+tasks-later who x lines other = tasks_of_line who x lines ∙ ap (λ (b : Bool). if b then x.task ∷ tasks_of who lines else tasks_of who lines) other
 
 missing-step : (who : Caller) (x : ActorLine) (lines : List ActorLine) (b : Bool) → same_caller x.caller who ≡ b →
     (if b then true else knows who (filter (λ c. not (same_caller c x.caller)) (actors_of lines))) ≡ false →
@@ -103,21 +68,9 @@ missing-step who x lines false is h rest =
     tasks-later who x lines is ∙ rest (sym (knows-kept who x.caller (actors_of lines) is) ∙ h)
 
 tasks-missing : (who : Caller) (lines : List ActorLine) → knows who (actors_of lines) ≡ false → tasks_of who lines ≡ []
-tasks-missing who [] h = tasks-none who
+tasks-missing who [] h = tasks_nothing who
 tasks-missing who (x ∷ lines) h =
     missing-step who x lines (same_caller x.caller who) refl (sym (ap (knows who) (actors-first x lines)) ∙ h) (tasks-missing who lines)
-
-unrolled-none : unrolled [] ≡ no_more
-unfolding unrolled
-unrolled-none = refl
-
-nothing-more : (replies : List Reply) → fold answered no_more replies ≡ no_more
-nothing-more [] = refl
-nothing-more (r ∷ rs) = nothing-more rs
-
-next-none : (who : Caller) (lines : List ActorLine) (replies : List Reply) → tasks_of who lines ≡ [] → next_ask who lines replies ≡ None
-next-none who lines replies h =
-    ap (λ (a : Asks). next_call (fold answered a replies)) (ap unrolled h ∙ unrolled-none) ∙ ap next_call (nothing-more replies)
 
 -- a caller is an actor, or asks nothing
 pub of-actors : (s : Script) (who : Caller) →
@@ -127,7 +80,7 @@ of-actors s who = go (knows who (actors_of s.lines)) refl
     go : (b : Bool) → knows who (actors_of s.lines) ≡ b →
         ((k : ℕ) × (k < actors_in s) × (caller_at s.lines k ≡ who)) ⊎ ((before : List Entry) → next_of s before who ≡ None)
     go true h = inl (knows-found who (actors_of s.lines) h)
-    go false h = inr (λ before. next-none who s.lines (replies_of who before) (tasks-missing who s.lines h))
+    go false h = inr (λ before. lineless_ask_nothing who s.lines (replies_of who before) (tasks-missing who s.lines h))
 
 pub asks-none : (s : Script) (who : Caller) → ((k : ℕ) → k < actors_in s → caller_at s.lines k ≡ who → ⊥) → (before : List Entry) →
     next_of s before who ≡ None
@@ -160,7 +113,7 @@ distinct-kept p (c ∷ cs) d = by (p c) (apart-kept p c cs d.0) (distinct-kept p
 
 none-same : (x : Caller) (cs : List Caller) → AllByRecursion (λ y. same_caller x y ≡ false) (filter (λ c. not (same_caller c x)) cs)
 none-same x [] = tt
-none-same x (c ∷ cs) = by (same_caller c x) (swapped c x) (filter (λ c. not (same_caller c x)) cs) (none-same x cs)
+none-same x (c ∷ cs) = by (same_caller c x) (callers_apart c x) (filter (λ c. not (same_caller c x)) cs) (none-same x cs)
   where
     by : (b : Bool) → (b ≡ false → same_caller x c ≡ false) → (kept : List Caller) → AllByRecursion (λ y. same_caller x y ≡ false) kept →
         AllByRecursion (λ y. same_caller x y ≡ false) (cond (not b) (c ∷ kept) kept)
@@ -179,37 +132,27 @@ actors-distinct : (lines : List ActorLine) → IsDistinct same_caller (actors_of
 actors-distinct [] = subst (IsDistinct same_caller) (sym actors-none) distinct-none
 actors-distinct (x ∷ lines) = subst (IsDistinct same_caller) (sym (actors-first x lines)) (distinct-first x.caller (actors_of lines) (actors-distinct lines))
 
-callers-apart : (lines : List ActorLine) (a b : ℕ) → a < length (actors_of lines) → b < length (actors_of lines) → (b ≡ a → ⊥) →
+actors-apart : (lines : List ActorLine) (a b : ℕ) → a < length (actors_of lines) → b < length (actors_of lines) → (b ≡ a → ⊥) →
     same_caller (caller_at lines a) (caller_at lines b) ≡ false
-callers-apart lines a b here there apart = go (nat_lt a b) refl
+actors-apart lines a b here there apart = go (nat_lt a b) refl
   where
     go : (t : Bool) → nat_lt a b ≡ t → same_caller (caller_at lines a) (caller_at lines b) ≡ false
     go true h = apart_from_distinct same_caller (actors_of lines) a b (Device 0) (actors-distinct lines) (ltb-true a b h) there
     go false h =
         let above : b ≤ a = ltb-false a b h in
         let below : b < a = grind (arith, above, apart) in
-        swapped (caller_at lines b) (caller_at lines a) (apart_from_distinct same_caller (actors_of lines) b a (Device 0) (actors-distinct lines) below here)
+        callers_apart (caller_at lines b) (caller_at lines a) (apart_from_distinct same_caller (actors_of lines) b a (Device 0) (actors-distinct lines) below here)
 
 -- ---- an actor follows
-
-replies-more : (who : Caller) (before : List Entry) (e : Entry) → same_caller e.caller who ≡ true →
-    replies_of who (before ++ e ∷ []) ≡ replies_of who before ++ e.reply ∷ []
-replies-more who before e same =
-    let mine = filter (λ (d : Entry). same_caller d.caller who) before in
-    ap (map (λ (d : Entry). d.reply)) (filter-append (λ (d : Entry). same_caller d.caller who) before (e ∷ []) ∙ ap (λ (b : Bool). mine ++ cond b (e ∷ []) []) same)
-    ∙ map-append (λ (d : Entry). d.reply) mine (e ∷ [])
-
-replies-same : (who : Caller) (before : List Entry) (e : Entry) → same_caller e.caller who ≡ false →
-    replies_of who (before ++ e ∷ []) ≡ replies_of who before
-replies-same who before e other =
-    let mine = filter (λ (d : Entry). same_caller d.caller who) before in
-    ap (map (λ (d : Entry). d.reply)) (filter-append (λ (d : Entry). same_caller d.caller who) before (e ∷ []) ∙ ap (λ (b : Bool). mine ++ cond b (e ∷ []) []) other ∙ append-nil mine)
 
 pub have-started : (s : Script) (ps : List Progress) (n : ℕ) (first : Progress) → n ≡ actors_in s → ps ≡ replicate n first →
     ((who : Caller) (lines : List ActorLine) → HasFollowed who lines [] first) → HaveFollowed s [] ps
 have-started s ps n first all is begins = record {
   as_many = ap length is ∙ length-replicate n first ∙ all;
-  each = λ a below. subst (λ (p : Progress). HasFollowed (caller_at s.lines a) s.lines [] p) (sym (at a below)) (begins (caller_at s.lines a) s.lines);
+  each = λ a below.
+      let who = caller_at s.lines a in
+      subst (λ (rs : List Reply). HasFollowed who s.lines rs (progress_at ps a)) (sym (no_replies who))
+      (subst (λ (p : Progress). HasFollowed who s.lines [] p) (sym (at a below)) (begins who s.lines));
 }
   where
     at : (a : ℕ) → a < actors_in s → progress_at ps a ≡ first
@@ -232,7 +175,7 @@ follow-one s ps new a p reply there many is follows before e have mine told = re
         let who = caller_at s.lines a in
         let at : progress_at new a ≡ p = ap (λ (qs : List Progress). progress_at qs a) is ∙ get_or-set_same ps a p _ (omega (arith, there, many)) in
         let more : replies_of who (before ++ e ∷ []) ≡ replies_of who before ++ reply ∷ [] =
-        replies-more who before e (is-same e.caller who (sym mine)) ∙ ap (λ (r : Reply). replies_of who before ++ r ∷ []) told in
+        own_reply who before e (sym mine) ∙ ap (λ (r : Reply). replies_of who before ++ r ∷ []) told in
         subst (λ (q : Progress). HasFollowed who s.lines (replies_of who (before ++ e ∷ [])) q) (sym at)
         (subst (λ (rs : List Reply). HasFollowed who s.lines rs p) (sym more) (follows (replies_of who before) (have.each a there)))
 
@@ -241,6 +184,6 @@ follow-one s ps new a p reply there many is follows before e have mine told = re
         let who = caller_at s.lines b in
         let at : progress_at new b ≡ progress_at ps b = ap (λ (qs : List Progress). progress_at qs b) is ∙ get_or-set_other ps a b p _ apart in
         let same : replies_of who (before ++ e ∷ []) ≡ replies_of who before =
-        replies-same who before e (ap (λ (c : Caller). same_caller c who) (sym mine) ∙ callers-apart s.lines a b there below apart) in
+        others_reply who before e (ap (λ (c : Caller). same_caller c who) (sym mine) ∙ actors-apart s.lines a b there below apart) in
         subst (λ (q : Progress). HasFollowed who s.lines (replies_of who (before ++ e ∷ [])) q) (sym at)
         (subst (λ (rs : List Reply). HasFollowed who s.lines rs (progress_at ps b)) (sym same) (have.each b below))

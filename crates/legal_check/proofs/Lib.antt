@@ -1,3 +1,4 @@
 mod Known
 mod Ended
 mod Tried
+mod One

@@ -1,30 +1,20 @@
 -- Entries without a flaw, one after another, and verdicts.
-use Rattle.std.proofs.Common.{◌≡◌, ℕ, zero, suc, ◌≤◌, Bool, true, false, List, [], ◌∷◌, ◌++◌, length, take, slice_get, refl, ap, sym, ◌∙◌, subst, append_assoc, Some, arith}
-use Rattle.std.proofs.lemmas.List.{append-nil}
+use Rattle.std.proofs.Common.{◌≡◌, ℕ, zero, suc, ◌≤◌, Bool, true, false, List, [], ◌∷◌, ◌++◌, length, take, slice_get, refl, ap, sym, ◌∙◌, subst, Some, arith}
 use Rattle.std.proofs.Math.Seq.{take-append_seam}
 use Rattle.irq_base.specs.declared.lists.Entry.{Entry}
 use Rattle.irq_base.specs.declared.shape.Shape.{Shape}
 use Rattle.board_model.specs.Board.{Board}
-use Rattle.board_step.specs.Step.{Step}
-use Rattle.board_step.specs.History.{opening, Leads}
+use Rattle.board_step.specs.History.{opening}
 use Rattle.board_step.specs.Publications.{StepsKeepTheFrame}
 use Rattle.script_text.specs.declared.progress.Progress.{Progress}
 use Rattle.script_text.specs.Scripts.{Script}
 use Rattle.transcript.specs.declared.transcript.Transcript.{Transcript}
 use Rattle.legal_check.specs.declared.verdict.Flaw.{Flaw}
 use Rattle.legal_check.specs.declared.verdict.Flaw.TheVariants.{Asked, Reply, Ending}
-use Rattle.legal_check.specs.Merging.{next_of, IsAsked, Merges}
-use Rattle.legal_check.specs.Verdicts.{Stand, EndsWell, FitsScript, FlawAt}
+use Rattle.script_histories.specs.Merging.{Stand, EndsWell, Fits}
+use Rattle.script_histories.proofs.Merged.{merges_more, leads_more}
+use Rattle.legal_check.specs.Verdicts.{FlawAt}
 use Rattle.legal_check.specs.Standing.{HaveFollowed, HasFlaw, GoesOn}
-
-merges-more : (s : Script) (before es : List Entry) (e : Entry) → Merges s before es → IsAsked s (before ++ es) e → Merges s before (es ++ e ∷ [])
-merges-more s before [] e h asked = (subst (λ (ds : List Entry). IsAsked s ds e) (append-nil before) asked, tt)
-merges-more s before (x ∷ es) e h asked =
-    (h.0, merges-more s (before ++ x ∷ []) es e h.1 (subst (λ (ds : List Entry). IsAsked s ds e) (sym (append_assoc before (x ∷ []) es)) asked))
-
-leads-more : (b : Board) (es : List Entry) (e : Entry) (c d : Board) → Leads b es c → Step c e d → Leads b (es ++ e ∷ []) d
-leads-more b [] e c d same step = (d, subst (λ (x : Board). Step x e d) (sym same) step, refl)
-leads-more b (x ∷ es) e c d (next, first, rest) step = (next, first, leads-more next es e c d rest step)
 
 -- entries without a flaw led to this board, and the actors followed them
 pub record Running (s : Script) (entries : List Entry) (b : Board) (ps : List Progress) : Type 0 where
@@ -42,7 +32,7 @@ begins s shape b ps same is followed = record {
 pub goes : StepsKeepTheFrame → (s : Script) (entries now : List Entry) (b c : Board) (ps qs : List Progress) (e : Entry) → now ≡ entries ++ e ∷ [] →
     Running s entries b ps → GoesOn s entries b e c qs → Running s now c qs
 goes frame s entries now b c ps qs e is run on = subst (λ (es : List Entry). Running s es c qs) (sym is) (record {
-  stand = record { merge = merges-more s [] entries e run.stand.merge on.asked; legal = leads-more (opening s.shape) entries e b c run.stand.legal on.step };
+  stand = record { merge = merges_more s [] entries e run.stand.merge on.asked; legal = leads_more (opening s.shape) entries e b c run.stand.legal on.step };
   followed = on.followed;
   shape = (frame b e c on.step).shape ∙ run.shape;
 })
@@ -53,14 +43,14 @@ flawed s run place b ps e Asked there now has = record { board = b; before = now
 flawed s run place b ps e Reply there now has = record { board = b; before = now.stand; has = record { entry = e; there = there; asked = has.0; flaw = has.1 } }
 flawed s run place b ps e Ending there now has = absurd has
 
-whole : {A : Type 0} (xs : List A) (n : ℕ) → length xs ≤ n → take n xs ≡ xs
+pub whole : {A : Type 0} (xs : List A) (n : ℕ) → length xs ≤ n → take n xs ≡ xs
 whole [] zero over = refl
 whole [] (suc n) over = refl
 whole (x ∷ xs) zero over = absurd (omega (arith, over))
 whole (x ∷ xs) (suc n) over = ap (λ (ys : List _). x ∷ ys) (whole xs n (omega (arith, over)))
 
 pub fits : (s : Script) (run : Transcript) (n : ℕ) (b : Board) (ps : List Progress) → length run.history ≤ n → Running s (take n run.history) b ps →
-    EndsWell s (take n run.history) b run.spent → FitsScript s run
+    EndsWell s (take n run.history) b run.spent → Fits s run
 fits s run n b ps over now ends = record {
   board = b;
   stand = subst (λ (es : List Entry). Stand s es b) (whole run.history n over) now.stand;

@@ -10,7 +10,7 @@ use Rattle.script_text.specs.Asks.{actors_of, caller_at, HasFollowed}
 use Rattle.script_text.specs.Scripts.{Script}
 use Rattle.legal_check.specs.declared.verdict.Flaw.{Flaw}
 use Rattle.legal_check.specs.declared.verdict.Flaw.TheVariants.{Asked, Reply, Ending}
-use Rattle.legal_check.specs.Merging.{replies_of, IsAsked}
+use Rattle.script_histories.specs.Merging.{replies_of, IsAsked}
 
 -- how many actors a script has
 abbrev pub actors_in : Script → ℕ

@@ -1,6 +1,10 @@
 //! A transcript beside its script, on a board.
-ghost use Rattle.std.specs.Prelude.{◌≡◌, ◌∷◌, List, length, IfOk, IfSome, IfNone};
+ghost use Rattle.std.specs.Prelude.{◌≡◌, ◌↔◌, ◌∷◌, List, length, true, IsTrue, IfOk, IfSome, IfNone};
+ghost use Rattle.irq_base.specs.Callers.{is_allowed};
 ghost use Rattle.irq_base.specs.declared.lists.Entry.{Entry as AnyEntry};
+ghost use Rattle.board_step.specs.Applied.{LeadsOn};
+ghost use Rattle.board_step.specs.Step.{Step};
+ghost use Rattle.legal_check.specs.declared.verdict.Verdict.TheVariants as verdicts;
 ghost use Rattle.legal_check.specs.Standing.{actors_in, HaveFollowed, HasFlaw, GoesOn};
 ghost use Rattle.legal_check.specs.Verdicts.{IsVerdict};
 
@@ -12,6 +16,15 @@ use irq_base::{Entry, NoMemory};
 use script_text::{Progress, Script};
 use std::alloc::Global;
 use transcript::Transcript;
+
+// Whether an entry is a step from the board; then the board is the one behind it.
+fn follows(board: &mut Board, entry: &Entry) -> bool
+    requires { is_allowed entry.now.caller entry.now.call board.old.shape ≡ true }
+    ensures exactly { IsTrue result ↔ LeadsOn board.old entry.now }
+    ensures leads { IsTrue result → Step board.old entry.now board.new }
+{
+    board.follow(entry.caller, &entry.call, &entry.reply, &entry.events)
+}
 
 // The flaw of an entry. Without one the board is the one behind it, and its actor has followed its reply.
 fn flaw_of(script: &Script, all: &mut [Progress], board: &mut Board, entry: &Entry) -> Option<Flaw>
@@ -25,13 +38,23 @@ fn flaw_of(script: &Script, all: &mut [Progress], board: &mut Board, entry: &Ent
     match asked(script, all, entry) {
         None => Some(Flaw::Asked),
         Some(actor) => {
-            if board.follow(entry.caller, &entry.call, &entry.reply, &entry.events) {
+            if follows(board, entry) {
                 follow(script, all, actor, &entry.reply);
                 None
             } else {
                 Some(Flaw::Reply)
             }
         }
+    }
+}
+
+// The verdict that a place has a flaw.
+fn not_at(place: usize, cause: Flaw) -> Verdict
+    ensures { result ≡ verdicts.NotAt place cause }
+{
+    Verdict::NotAt {
+        at: place as u64,
+        cause,
     }
 }
 
@@ -59,19 +82,13 @@ pub fn check(alloc: Global, script: &Script, run: &Transcript) -> Result<Verdict
         ) {
             None => {}
             Some(cause) => {
-                return Ok(Verdict::NotAt {
-                    at: place as u64,
-                    cause,
-                });
+                return Ok(not_at(place, cause));
             }
         }
     }
     if ends_well(script, all.as_slice(), &mut board, run.spent) {
         Ok(Verdict::Legal)
     } else {
-        Ok(Verdict::NotAt {
-            at: run.history.len() as u64,
-            cause: Flaw::Ending,
-        })
+        Ok(not_at(run.history.len(), Flaw::Ending))
     }
 }

@@ -4,8 +4,10 @@
 mod actors;
 mod checking;
 mod ending;
+mod laws;
 mod same;
 mod verdict;
 
 pub use checking::check;
+pub use laws::has_one_verdict;
 pub use verdict::{Flaw, Verdict};

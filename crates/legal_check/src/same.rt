@@ -1,5 +1,7 @@
 //! Whether two calls are one.
 ghost use Rattle.std.specs.Prelude.{◌≡◌, ◌↔◌, IsTrue};
+ghost use Rattle.board_calls.specs.Families.{is_of_device, is_access};
+ghost use Rattle.script_histories.specs.Kinds.{is_of_irqfds, is_of_ioevents};
 
 use irq_base::{Call, Caller, Row, Rows};
 
@@ -32,8 +34,9 @@ pub fn same_caller(caller: Caller, other: Caller) -> bool
     caller == other
 }
 
-// Whether two calls are equal.
-pub fn same_call(call: &Call, other: &Call) -> bool
+// Whether a call of a device, which sets a line, sends a message, or writes or reads a counter, is this other.
+fn same_of_device(call: &Call, other: &Call) -> bool
+    requires { IsTrue (is_of_device call.now) }
     ensures { IsTrue result ↔ (call.now ≡ other.now) }
 {
     match (call, other) {
@@ -55,6 +58,16 @@ pub fn same_call(call: &Call, other: &Call) -> bool
         (Call::Write { counter, n }, Call::Write { counter: c, n: m }) => *counter == *c
             && *n == *m,
         (Call::Take { counter }, Call::Take { counter: c }) => *counter == *c,
+        _ => false,
+    }
+}
+
+// Whether a call that makes or ends an irqfd or an acknowledge notifier is this other.
+fn same_irqfd(call: &Call, other: &Call) -> bool
+    requires { IsTrue (is_of_irqfds call.now) }
+    ensures { IsTrue result ↔ (call.now ≡ other.now) }
+{
+    match (call, other) {
         (
             Call::Assign {
                 trigger,
@@ -69,45 +82,62 @@ pub fn same_call(call: &Call, other: &Call) -> bool
         ) => *trigger == *t && *gsi == *g && *resample == *r,
         (Call::Deassign { trigger, gsi }, Call::Deassign { trigger: t, gsi: g }) => *trigger == *t
             && *gsi == *g,
-        (Call::Reroute { rows }, Call::Reroute { rows: r }) => same_rows(rows, r),
-        (
-            Call::Attach {
-                space,
-                address,
-                len,
-                counter,
-                want,
-            },
-            Call::Attach {
-                space: s,
-                address: a,
-                len: l,
-                counter: c,
-                want: w,
-            },
-        ) => { *space == *s && *address == *a && *len == *l && *counter == *c && *want == *w }
-        (
-            Call::Detach {
-                space,
-                address,
-                len,
-                counter,
-                want,
-            },
-            Call::Detach {
-                space: s,
-                address: a,
-                len: l,
-                counter: c,
-                want: w,
-            },
-        ) => { *space == *s && *address == *a && *len == *l && *counter == *c && *want == *w }
         (Call::Watch { counter, gsi }, Call::Watch { counter: c, gsi: g }) => *counter == *c
             && *gsi == *g,
         (Call::Unwatch { counter, gsi }, Call::Unwatch { counter: c, gsi: g }) => *counter == *c
             && *gsi == *g,
-        (Call::Tick, Call::Tick) => true,
-        (Call::TickMode { reinject }, Call::TickMode { reinject: r }) => *reinject == *r,
+        _ => false,
+    }
+}
+
+// Whether a call that makes or ends an ioeventfd is this other.
+fn same_ioevent(call: &Call, other: &Call) -> bool
+    requires { IsTrue (is_of_ioevents call.now) }
+    ensures { IsTrue result ↔ (call.now ≡ other.now) }
+{
+    match (call, other) {
+        (
+            Call::Attach {
+                space,
+                address,
+                len,
+                counter,
+                want,
+            },
+            Call::Attach {
+                space: s,
+                address: a,
+                len: l,
+                counter: c,
+                want: w,
+            },
+        ) => { *space == *s && *address == *a && *len == *l && *counter == *c && *want == *w }
+        (
+            Call::Detach {
+                space,
+                address,
+                len,
+                counter,
+                want,
+            },
+            Call::Detach {
+                space: s,
+                address: a,
+                len: l,
+                counter: c,
+                want: w,
+            },
+        ) => { *space == *s && *address == *a && *len == *l && *counter == *c && *want == *w }
+        _ => false,
+    }
+}
+
+// Whether an access of the guest, to a port or to memory, is this other.
+fn same_access(call: &Call, other: &Call) -> bool
+    requires { IsTrue (is_access call.now) }
+    ensures { IsTrue result ↔ (call.now ≡ other.now) }
+{
+    match (call, other) {
         (
             Call::PortOut { port, len, value },
             Call::PortOut {
@@ -131,6 +161,27 @@ pub fn same_call(call: &Call, other: &Call) -> bool
         ) => *address == *a && *len == *l && *value == *v,
         (Call::Load { address, len }, Call::Load { address: a, len: l }) => *address == *a
             && *len == *l,
+        _ => false,
+    }
+}
+
+// Whether two calls are equal.
+pub fn same_call(call: &Call, other: &Call) -> bool
+    ensures { IsTrue result ↔ (call.now ≡ other.now) }
+{
+    match (call, other) {
+        (Call::Line { .. } | Call::Msi { .. } | Call::Write { .. } | Call::Take { .. }, _) =>
+            same_of_device(call, other),
+        (
+            Call::Assign { .. } | Call::Deassign { .. } | Call::Watch { .. } | Call::Unwatch { .. },
+            _,
+        ) => same_irqfd(call, other),
+        (Call::Attach { .. } | Call::Detach { .. }, _) => same_ioevent(call, other),
+        (Call::PortOut { .. } | Call::PortIn { .. } | Call::Store { .. } | Call::Load { .. }, _) =>
+            same_access(call, other),
+        (Call::Reroute { rows }, Call::Reroute { rows: r }) => same_rows(rows, r),
+        (Call::Tick, Call::Tick) => true,
+        (Call::TickMode { reinject }, Call::TickMode { reinject: r }) => *reinject == *r,
         (Call::Ack, Call::Ack) => true,
         (Call::Inta, Call::Inta) => true,
         (Call::Eoi, Call::Eoi) => true,

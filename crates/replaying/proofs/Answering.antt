@@ -1,5 +1,5 @@
 -- One call that the board answered.
-use Rattle.std.proofs.Common.{◌≡◌, ℕ, ◌≤◌, List, [], ◌∷◌, ◌++◌, length, Ok, true, refl, sym, ap, ◌∙◌, subst, arith}
+use Rattle.std.proofs.Common.{◌≡◌, ℕ, ◌≤◌, List, [], ◌∷◌, ◌++◌, length, Ok, true, ap, ◌∙◌, arith}
 use Rattle.std.proofs.lemmas.List.{take_all}
 use Rattle.irq_base.specs.Callers.{is_allowed}
 use Rattle.irq_base.specs.Room.{with_told}
@@ -14,9 +14,7 @@ use Rattle.irq_base.specs.declared.shape.Shape.{Shape}
 use Rattle.board_model.specs.Board.{Board}
 use Rattle.board_step.specs.Applied.{Applied}
 use Rattle.board_step.specs.Bodies.{entry_of}
-use Rattle.board_step.specs.Publications.{KeepsTheFrame}
 use Rattle.board_step.specs.Sound.{IsSound}
-use Rattle.board_step.specs.Step.{Step}
 use Rattle.board_step.proofs.CountingAnswers.{steps_tell_few}
 use Rattle.board_step.proofs.Publishing.{steps_keep_the_frame}
 use Rattle.replaying.specs.Played.{Answered}

@@ -1,26 +1,26 @@
 -- A history in file order merges, and ends rightly.
-use Rattle.std.proofs.Common.{◌≡◌, Bool, true, false, List, [], ◌∷◌, ◌++◌, append_assoc, fold, if◌then◌else◌, is_some, Some, None, refl, sym, ap, ◌∙◌, subst}
+use Rattle.std.proofs.Common.{◌≡◌, Bool, true, false, List, [], ◌∷◌, ◌++◌, append_assoc, if◌then◌else◌, is_some, Some, None, refl, sym, ap, ◌∙◌, subst}
 use Rattle.std.proofs.lemmas.List.{append-nil}
 use Rattle.std.specs.declared.option.Option.{Option}
 use Rattle.irq_base.specs.declared.call.Call.{Call}
 use Rattle.irq_base.specs.declared.call.Caller.{Caller}
 use Rattle.irq_base.specs.declared.lists.Entry.{Entry}
-use Rattle.irq_base.specs.declared.reply.Reply.{Reply}
 use Rattle.irq_base.specs.declared.reply.Spent.{Spent}
 use Rattle.script_text.specs.declared.task.ActorLine.{ActorLine}
-use Rattle.script_text.specs.Asks.{Asks, no_more, same_caller, next_call, answered, line_asks, unrolled, tasks_of, asks_after}
+use Rattle.script_text.specs.Asks.{Asks, no_more, same_caller, next_call, line_asks, unrolled, tasks_of, asks_after}
 use Rattle.script_text.specs.Scripts.{Script}
 use Rattle.board_model.specs.Board.{Board}
-use Rattle.board_step.specs.History.{opening, board_after, Leads}
+use Rattle.board_step.specs.History.{opening, Leads}
 use Rattle.board_step.specs.Step.{spent_of}
-use Rattle.board_step.proofs.Following.{board_after_is_reached}
 use Rattle.replaying.specs.declared.stops.Stop.{Stop}
-use Rattle.replaying.specs.FileOrder.{stop_of, with_stop, Leaves, Asked, LineAsked, PassedOver, LinesAsked, first_stop, InFileOrder}
-use Rattle.replaying.specs.Merging.{replies_to, AsksNext, Merges, IsWhole, IsSpent, EndsRight, Fits}
-use Rattle.replaying.specs.Replays.{run_of, Replays}
+use Rattle.replaying.specs.FileOrder.{stop_of, with_stop, Leaves, LineAsked, PassedOver, LinesAsked, first_stop}
+use Rattle.script_histories.specs.Merging.{replies_of, next_of, Merges, IsWhole, AreBarred, EndsWell}
+use Rattle.script_histories.proofs.Callers.{callers_same, caller_itself}
+use Rattle.script_histories.proofs.Asking.{tasks_nothing, tasks_of_line, unrolled_nothing, unrolled_line, lineless_ask_nothing}
+use Rattle.script_histories.proofs.Merged.{no_replies, merges_append, leads_append}
+use Rattle.replaying.specs.Replays.{Replays}
 use Rattle.replaying.proofs.Barred.{stays_barred}
-use Rattle.replaying.proofs.Merged.{callers_same, caller_itself, tasks_nothing, tasks_of_line, unrolled_nothing, unrolled_line, no_replies, merges_append, after, in_turn, others_stay}
-use Rattle.replaying.proofs.Turns.{leads-append}
+use Rattle.replaying.proofs.Merged.{after, in_turn, others_stay}
 
 some_none : {A : Type 0} (x : A) → Some x ≡ None → ⊥
 some_none x e = cc
@@ -42,24 +42,24 @@ behind_own line lines =
     ap unrolled (tasks_of_line line.caller line lines ∙ ap (λ (t : Bool). if t then line.task ∷ tasks_of line.caller lines else tasks_of line.caller lines) (caller_itself line.caller))
     ∙ unrolled_line line.task (tasks_of line.caller lines)
 
-module _ (all : List ActorLine) where
+module _ (s : Script) where
   -- each caller stands somewhere, with these lines to come
   abbrev AllStand : Board → List Entry → List Stop → List ActorLine → Type 0
-  AllStand b before had lines = (who : Caller) → Stands (stop_of who had) (after all who before) (unrolled (tasks_of who lines)) b
+  AllStand b before had lines = (who : Caller) → Stands (stop_of who had) (after s who before) (unrolled (tasks_of who lines)) b
 
   -- a line that is passed over
   passed_over : (b : Board) (before : List Entry) (had : List Stop) (line : ActorLine) (lines : List ActorLine) (spent : Spent)
       → stop_of line.caller had ≡ Some spent → AllStand b before had (line ∷ lines) → AllStand b before had lines
   passed_over b before had line lines spent stopped stand who = by (same_caller line.caller who) refl
     where
-      with_stop_of : (stop : Option Spent) → stop ≡ Some spent → Stands stop (after all who before) (unrolled (tasks_of who (line ∷ lines))) b
-          → Stands stop (after all who before) (unrolled (tasks_of who lines)) b
+      with_stop_of : (stop : Option Spent) → stop ≡ Some spent → Stands stop (after s who before) (unrolled (tasks_of who (line ∷ lines))) b
+          → Stands stop (after s who before) (unrolled (tasks_of who lines)) b
       with_stop_of None is s = absurd (some_none spent (sym is))
       with_stop_of (Some other) is s = s
 
-      by : (t : Bool) → same_caller line.caller who ≡ t → Stands (stop_of who had) (after all who before) (unrolled (tasks_of who lines)) b
+      by : (t : Bool) → same_caller line.caller who ≡ t → Stands (stop_of who had) (after s who before) (unrolled (tasks_of who lines)) b
       by true same = with_stop_of (stop_of who had) (ap (λ w. stop_of w had) (sym (callers_same line.caller who same)) ∙ stopped) (stand who)
-      by false apart = subst (λ a. Stands (stop_of who had) (after all who before) a b) (behind_same who line lines apart) (stand who)
+      by false apart = subst (λ a. Stands (stop_of who had) (after s who before) a b) (behind_same who line lines apart) (stand who)
 
   -- a line that is taken
   module _ (b : Board) (before : List Entry) (had : List Stop) (line : ActorLine) (lines : List ActorLine) (mine : List Entry) (stop : Option Spent) (mid : Board)
@@ -67,20 +67,20 @@ module _ (all : List ActorLine) where
     abbrev behind : Asks
     behind = unrolled (tasks_of line.caller lines)
 
-    own : after all line.caller before ≡ line_asks line.task behind
-    own = subst (λ o. Stands o (after all line.caller before) (unrolled (tasks_of line.caller (line ∷ lines))) b) free (stand line.caller) ∙ behind_own line lines
+    own : after s line.caller before ≡ line_asks line.task behind
+    own = subst (λ o. Stands o (after s line.caller before) (unrolled (tasks_of line.caller (line ∷ lines))) b) free (stand line.caller) ∙ behind_own line lines
 
-    turned : Merges all before mine × (after all line.caller (before ++ mine) ≡ taken.left)
-    turned = in_turn all line.caller _ taken.left before mine own taken.asked
+    turned : Merges s before mine × (after s line.caller (before ++ mine) ≡ taken.left)
+    turned = in_turn s line.caller _ taken.left before mine own taken.asked
 
-    pub merges_line : Merges all before mine
+    pub merges_line : Merges s before mine
     merges_line = turned.0
 
     -- the line's own caller
-    own_stands : (stop : Option Spent) → Leaves mid taken.left behind stop → Stands (stop_of line.caller (with_stop line.caller stop had)) (after all line.caller (before ++ mine)) behind mid
-    own_stands None leaves = subst (λ o. Stands o (after all line.caller (before ++ mine)) behind mid) (sym free) (turned.1 ∙ leaves)
+    own_stands : (stop : Option Spent) → Leaves mid taken.left behind stop → Stands (stop_of line.caller (with_stop line.caller stop had)) (after s line.caller (before ++ mine)) behind mid
+    own_stands None leaves = subst (λ o. Stands o (after s line.caller (before ++ mine)) behind mid) (sym free) (turned.1 ∙ leaves)
     own_stands (Some spent) (call, next, barred) =
-        subst (λ o. Stands o (after all line.caller (before ++ mine)) behind mid)
+        subst (λ o. Stands o (after s line.caller (before ++ mine)) behind mid)
         (sym (ap (λ (t : Bool). if t then Some spent else stop_of line.caller had) (caller_itself line.caller)))
         (call, ap next_call turned.1 ∙ next, ap is_some barred)
 
@@ -93,23 +93,23 @@ module _ (all : List ActorLine) where
     moved None now a s = s
     moved (Some spent) now a (call, next, barred) = (call, next, stays_barred b call mine mid taken.leads barred)
 
-    others_stand : (who : Caller) → same_caller line.caller who ≡ false → Stands (stop_of who (with_stop line.caller stop had)) (after all who (before ++ mine)) (unrolled (tasks_of who lines)) mid
+    others_stand : (who : Caller) → same_caller line.caller who ≡ false → Stands (stop_of who (with_stop line.caller stop had)) (after s who (before ++ mine)) (unrolled (tasks_of who lines)) mid
     others_stand who apart =
-        subst (λ o. Stands o (after all who (before ++ mine)) (unrolled (tasks_of who lines)) mid) (sym (with_others who stop apart))
-        (subst (λ now. Stands (stop_of who had) now (unrolled (tasks_of who lines)) mid) (sym (others_stay all line.caller who _ taken.left before mine apart taken.asked))
-        (moved (stop_of who had) (after all who before) (unrolled (tasks_of who lines))
-        (subst (λ a. Stands (stop_of who had) (after all who before) a b) (behind_same who line lines apart) (stand who))))
+        subst (λ o. Stands o (after s who (before ++ mine)) (unrolled (tasks_of who lines)) mid) (sym (with_others who stop apart))
+        (subst (λ now. Stands (stop_of who had) now (unrolled (tasks_of who lines)) mid) (sym (others_stay s line.caller who _ taken.left before mine apart taken.asked))
+        (moved (stop_of who had) (after s who before) (unrolled (tasks_of who lines))
+        (subst (λ a. Stands (stop_of who had) (after s who before) a b) (behind_same who line lines apart) (stand who))))
 
     pub stand_after_line : AllStand mid (before ++ mine) (with_stop line.caller stop had) lines
     stand_after_line who = by (same_caller line.caller who) refl
       where
-        by : (t : Bool) → same_caller line.caller who ≡ t → Stands (stop_of who (with_stop line.caller stop had)) (after all who (before ++ mine)) (unrolled (tasks_of who lines)) mid
-        by true same = subst (λ w. Stands (stop_of w (with_stop line.caller stop had)) (after all w (before ++ mine)) (unrolled (tasks_of w lines)) mid) (callers_same line.caller who same) (own_stands stop taken.leaves)
+        by : (t : Bool) → same_caller line.caller who ≡ t → Stands (stop_of who (with_stop line.caller stop had)) (after s who (before ++ mine)) (unrolled (tasks_of who lines)) mid
+        by true same = subst (λ w. Stands (stop_of w (with_stop line.caller stop had)) (after s w (before ++ mine)) (unrolled (tasks_of w lines)) mid) (callers_same line.caller who same) (own_stands stop taken.leaves)
         by false apart = others_stand who apart
 
   -- what lines in file order make
   record Made (b : Board) (before entries : List Entry) (c : Board) (has : List Stop) : Type 0 where
-    pub merges : Merges all before entries
+    pub merges : Merges s before entries
     pub leads : Leads b entries c
     pub stand : AllStand c (before ++ entries) has []
 
@@ -117,7 +117,7 @@ module _ (all : List ActorLine) where
       → AllStand b before had lines → LinesAsked lines b had entries c has → Made b before entries c has
   unfolding LinesAsked
   lines_make [] b had before entries c has stand (nothing, same, kept) = record {
-    merges = subst (λ es. Merges all before es) (sym nothing) tt;
+    merges = subst (λ es. Merges s before es) (sym nothing) tt;
     leads = subst (λ es. Leads b es c) (sym nothing) same;
     stand = subst (λ es. AllStand c (before ++ es) has []) (sym nothing) (subst (λ es. AllStand c es has []) (sym (append-nil before)) (subst (λ (x : Board). AllStand x before has []) same (subst (λ hs. AllStand b before hs []) kept stand)));
   }
@@ -133,8 +133,8 @@ module _ (all : List ActorLine) where
       by rec None free (mine, later, stop, mid, both, taken, more) =
           let rest = rec mid (with_stop line.caller stop had) (before ++ mine) later (stand_after_line b before had line lines mine stop mid free stand taken) more in
           record {
-            merges = subst (λ es. Merges all before es) (sym both) (merges_append all before mine later (merges_line b before had line lines mine stop mid free stand taken) rest.merges);
-            leads = subst (λ es. Leads b es c) (sym both) (leads-append b mid c mine later taken.leads rest.leads);
+            merges = subst (λ es. Merges s before es) (sym both) (merges_append s before mine later (merges_line b before had line lines mine stop mid free stand taken) rest.merges);
+            leads = subst (λ es. Leads b es c) (sym both) (leads_append b mid c mine later taken.leads rest.leads);
             stand = subst (λ es. AllStand c es has []) (append_assoc before mine later ∙ ap (λ es. before ++ es) (sym both)) rest.stand;
           }
 
@@ -164,56 +164,42 @@ none_has_lines (line ∷ lines) stops who spent none stopped = by (λ more. none
 
 -- ---- a replay
 
-stays_over : (rs : List Reply) → next_call (fold answered no_more rs) ≡ None
-stays_over [] = refl
-stays_over (r ∷ rs) = stays_over rs
-
 over : (who : Caller) → unrolled (tasks_of who []) ≡ no_more
 over who = ap unrolled (tasks_nothing who) ∙ unrolled_nothing
 
 module _ (s : Script) (history : List Entry) (c : Board) (has : List Stop) (asked : LinesAsked s.lines (opening s.shape) [] history c has) where
-  start : AllStand s.lines (opening s.shape) [] [] s.lines
+  start : AllStand s (opening s.shape) [] [] s.lines
   start who = ap (asks_after who s.lines) (no_replies who)
 
-  made : Made s.lines (opening s.shape) [] history c has
-  made = lines_make s.lines s.lines (opening s.shape) [] [] history c has start asked
+  made : Made s (opening s.shape) [] history c has
+  made = lines_make s s.lines (opening s.shape) [] [] history c has start asked
 
-  -- an actor that was stopped has lines
-  lineless : (who : Caller) → tasks_of who s.lines ≡ [] → next_call (after s.lines who history) ≡ None
-  lineless who none =
-      ap (λ ts. next_call (fold answered (unrolled ts) (replies_to who history))) none
-      ∙ ap (λ a. next_call (fold answered a (replies_to who history))) unrolled_nothing
-      ∙ stays_over (replies_to who history)
-
-  whole : first_stop s.lines has ≡ None → IsWhole s.lines history
+  whole : first_stop s.lines has ≡ None → IsWhole s history
   whole none who = by (stop_of who has) refl (made.stand who)
     where
-      by : (o : Option Spent) → stop_of who has ≡ o → Stands o (after s.lines who history) (unrolled (tasks_of who [])) c → next_call (after s.lines who history) ≡ None
+      by : (o : Option Spent) → stop_of who has ≡ o → Stands o (after s who history) (unrolled (tasks_of who [])) c → next_call (after s who history) ≡ None
       by None free now = ap next_call (now ∙ over who)
-      by (Some spent) stopped (call, next, barred) = absurd (some_none call (sym next ∙ lineless who (none_has_lines s.lines has who spent none stopped)))
+      by (Some spent) stopped (call, next, barred) = absurd (some_none call (sym next ∙ lineless_ask_nothing who s.lines (replies_of who history) (none_has_lines s.lines has who spent none stopped)))
 
-  reached : board_after (opening s.shape) history ≡ c
-  reached = board_after_is_reached (opening s.shape) history c made.leads
-
-  barred_next : (who : Caller) (call : Call) → AsksNext s.lines history who call → is_some (spent_of (board_after (opening s.shape) history) call) ≡ true
+  barred_next : (who : Caller) (call : Call) → next_of s history who ≡ Some call → is_some (spent_of c call) ≡ true
   barred_next who call asks = by (stop_of who has) (made.stand who)
     where
-      by : (o : Option Spent) → Stands o (after s.lines who history) (unrolled (tasks_of who [])) c → is_some (spent_of (board_after (opening s.shape) history) call) ≡ true
+      by : (o : Option Spent) → Stands o (after s who history) (unrolled (tasks_of who [])) c → is_some (spent_of c call) ≡ true
       by None now = absurd (some_none call (sym asks ∙ ap next_call (now ∙ over who)))
-      by (Some spent) (own, next, barred) = (λ i. is_some (spent_of (reached i) (same_some call own (sym asks ∙ next) i))) ∙ barred
+      by (Some spent) (own, next, barred) = (λ i. is_some (spent_of c (same_some call own (sym asks ∙ next) i))) ∙ barred
 
-  spent_rightly : (limit : Spent) → first_stop s.lines has ≡ Some limit → IsSpent s history
+  spent_rightly : (limit : Spent) → first_stop s.lines has ≡ Some limit → AreBarred s history c
   spent_rightly limit is =
       let (who, stopped) = first_is_a_stop s.lines has limit is in
-      let (call, next, barred) = subst (λ o. Stands o (after s.lines who history) (unrolled (tasks_of who [])) c) stopped (made.stand who) in
-      record { who = who; call = call; asks = next; barred = barred_next }
+      let (call, next, barred) = subst (λ o. Stands o (after s who history) (unrolled (tasks_of who [])) c) stopped (made.stand who) in
+      record { who = who; left = ap is_some next; barred = barred_next }
 
-  ends : (o : Option Spent) → first_stop s.lines has ≡ o → EndsRight s history (is_some o)
+  ends : (o : Option Spent) → first_stop s.lines has ≡ o → EndsWell s history c (is_some o)
   ends None none = whole none
   ends (Some limit) is = spent_rightly limit is
 
   pub replays : Replays s history (first_stop s.lines has)
   replays = record {
-    fits = record { legal = (c, made.leads); merges = made.merges; ends = ends (first_stop s.lines has) refl };
+    fits = record { board = c; stand = record { merge = made.merges; legal = made.leads }; ends = ends (first_stop s.lines has) refl };
     order = record { last = c; stops = has; lines = asked; first = refl };
   }

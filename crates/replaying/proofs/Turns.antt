@@ -1,5 +1,5 @@
 -- Calls of one caller, one after another.
-use Rattle.std.proofs.Common.{◌≡◌, true, List, [], ◌∷◌, ◌++◌, append_assoc, Some, None, Ok, Err, IfOk, refl, sym, ap, ◌∙◌, subst}
+use Rattle.std.proofs.Common.{◌≡◌, List, [], ◌∷◌, ◌++◌, append_assoc, Some, None, Ok, Err, IfOk, refl, sym, ap, ◌∙◌, subst}
 use Rattle.std.proofs.lemmas.List.{append-nil}
 use Rattle.std.specs.declared.option.Option.{Option}
 use Rattle.std.specs.declared.result.Result.{Result}
@@ -9,20 +9,16 @@ use Rattle.irq_base.specs.declared.lists.Entry.{Entry}
 use Rattle.irq_base.specs.declared.lists.NoMemory.{NoMemory}
 use Rattle.irq_base.specs.declared.reply.Reply.{Reply}
 use Rattle.irq_base.specs.declared.reply.Spent.{Spent}
-use Rattle.script_text.specs.Asks.{Asks, ask, once, next_call, answered}
+use Rattle.script_text.specs.Asks.{Asks, ask, once, answered}
 use Rattle.board_model.specs.Board.{Board}
-use Rattle.board_step.specs.History.{Leads}
 use Rattle.board_step.specs.Step.{spent_of}
-use Rattle.replaying.specs.FileOrder.{AsksInTurn, Leaves, Asked}
+use Rattle.script_histories.proofs.Merged.{leads_append}
+use Rattle.replaying.specs.FileOrder.{AsksInTurn}
 use Rattle.replaying.specs.Played.{Answered, Played}
 
 asks-append : (who : Caller) (asks mid left : Asks) (es fs : List Entry) → AsksInTurn who asks es mid → AsksInTurn who mid fs left → AsksInTurn who asks (es ++ fs) left
 asks-append who asks mid left [] fs first second = subst (λ a. AsksInTurn who a fs left) (sym first) second
 asks-append who asks mid left (e ∷ es) fs (is, next, more) second = (is, next, asks-append who (answered asks e.reply) mid left es fs more second)
-
-pub leads-append : (b mid c : Board) (es fs : List Entry) → Leads b es mid → Leads mid fs c → Leads b (es ++ fs) c
-leads-append b mid c [] fs first second = subst (λ (x : Board). Leads x fs c) (sym first) second
-leads-append b mid c (e ∷ es) fs (next, step, more) second = (next, step, leads-append next mid c es fs more second)
 
 module _ (who : Caller) where
   -- nothing is asked
@@ -60,7 +56,7 @@ module _ (who : Caller) where
     asked = record {
       left = second.asked.left;
       asked = asks-append who asks mid second.asked.left first.mine second.mine (subst (λ a. AsksInTurn who asks first.mine a) first.asked.leaves first.asked.asked) second.asked.asked;
-      leads = leads-append b m c first.mine second.mine first.asked.leads second.asked.leads;
+      leads = leads_append b m c first.mine second.mine first.asked.leads second.asked.leads;
       leaves = second.asked.leaves;
     };
   }

@@ -1,5 +1,5 @@
 -- Histories in which a script's lines are taken in file order (this board's own rule).
-use Rattle.std.specs.Prelude.{◌≡◌, Bool, true, false, List, [], ◌∷◌, ◌++◌, if◌then◌else◌, Some, None}
+use Rattle.std.specs.Prelude.{◌≡◌, List, [], ◌∷◌, ◌++◌, if◌then◌else◌, Some, None}
 use Rattle.std.specs.declared.option.Option.{Option}
 use Rattle.irq_base.specs.declared.call.Call.{Call}
 use Rattle.irq_base.specs.declared.call.Caller.{Caller}

@@ -1,4 +1,3 @@
-pub mod Merging
 pub mod FileOrder
 pub mod Replays
 pub mod Played

@@ -5,7 +5,7 @@ use Rattle.irq_base.specs.declared.lists.Entry.{Entry}
 use Rattle.irq_base.specs.declared.reply.Spent.{Spent}
 use Rattle.script_text.specs.Scripts.{Script}
 use Rattle.transcript.specs.declared.transcript.Transcript.{Transcript}
-use Rattle.replaying.specs.Merging.{Fits}
+use Rattle.script_histories.specs.Merging.{Fits}
 use Rattle.replaying.specs.FileOrder.{InFileOrder}
 
 -- the run of a history, whose ending tells whether a limit stopped an actor

@@ -1,5 +1,7 @@
 //! Copies of calls and events.
-ghost use Rattle.std.specs.Prelude.{◌≡◌, IfOk};
+ghost use Rattle.std.specs.Prelude.{◌≡◌, IsTrue, IfOk};
+ghost use Rattle.board_calls.specs.Families.{is_of_device, is_access};
+ghost use Rattle.script_histories.specs.Kinds.{is_of_irqfds, is_of_ioevents};
 
 use irq_base::{Call, Event, EventList, NoMemory, Rows};
 use std::alloc::Global;
@@ -29,11 +31,12 @@ pub fn list_of(alloc: Global, events: &[Event]) -> Result<EventList, NoMemory>
     Ok(list)
 }
 
-/// The same call.
-pub fn call_of(alloc: Global, call: &Call) -> Result<Call, NoMemory>
-    ensures { IfOk result (λ copy. copy ≡ call.now) }
+// The same call of a device: it sets a line, sends a message, or writes or reads a counter.
+fn of_device(call: &Call) -> Call
+    requires { IsTrue (is_of_device call.now) }
+    ensures { result ≡ call.now }
 {
-    Ok(match call {
+    match call {
         Call::Line { gsi, line, high } => Call::Line {
             gsi: *gsi,
             line: *line,
@@ -48,6 +51,16 @@ pub fn call_of(alloc: Global, call: &Call) -> Result<Call, NoMemory>
             n: *n,
         },
         Call::Take { counter } => Call::Take { counter: *counter },
+        _ => unreachable!(),
+    }
+}
+
+// The same call, which makes or ends an irqfd or an acknowledge notifier.
+fn of_irqfds(call: &Call) -> Call
+    requires { IsTrue (is_of_irqfds call.now) }
+    ensures { result ≡ call.now }
+{
+    match call {
         Call::Assign {
             trigger,
             gsi,
@@ -61,9 +74,24 @@ pub fn call_of(alloc: Global, call: &Call) -> Result<Call, NoMemory>
             trigger: *trigger,
             gsi: *gsi,
         },
-        Call::Reroute { rows } => Call::Reroute {
-            rows: rows_of(alloc, rows)?,
+        Call::Watch { counter, gsi } => Call::Watch {
+            counter: *counter,
+            gsi: *gsi,
         },
+        Call::Unwatch { counter, gsi } => Call::Unwatch {
+            counter: *counter,
+            gsi: *gsi,
+        },
+        _ => unreachable!(),
+    }
+}
+
+// The same call, which makes or ends an ioeventfd.
+fn of_ioevents(call: &Call) -> Call
+    requires { IsTrue (is_of_ioevents call.now) }
+    ensures { result ≡ call.now }
+{
+    match call {
         Call::Attach {
             space,
             address,
@@ -90,18 +118,16 @@ pub fn call_of(alloc: Global, call: &Call) -> Result<Call, NoMemory>
             counter: *counter,
             want: *want,
         },
-        Call::Watch { counter, gsi } => Call::Watch {
-            counter: *counter,
-            gsi: *gsi,
-        },
-        Call::Unwatch { counter, gsi } => Call::Unwatch {
-            counter: *counter,
-            gsi: *gsi,
-        },
-        Call::Tick => Call::Tick,
-        Call::TickMode { reinject } => Call::TickMode {
-            reinject: *reinject,
-        },
+        _ => unreachable!(),
+    }
+}
+
+// The same access of the guest, to a port or to memory.
+fn of_access(call: &Call) -> Call
+    requires { IsTrue (is_access call.now) }
+    ensures { result ≡ call.now }
+{
+    match call {
         Call::PortOut { port, len, value } => Call::PortOut {
             port: *port,
             len: *len,
@@ -123,6 +149,30 @@ pub fn call_of(alloc: Global, call: &Call) -> Result<Call, NoMemory>
         Call::Load { address, len } => Call::Load {
             address: *address,
             len: *len,
+        },
+        _ => unreachable!(),
+    }
+}
+
+/// The same call.
+pub fn call_of(alloc: Global, call: &Call) -> Result<Call, NoMemory>
+    ensures { IfOk result (λ copy. copy ≡ call.now) }
+{
+    Ok(match call {
+        Call::Line { .. } | Call::Msi { .. } | Call::Write { .. } | Call::Take { .. } => of_device(
+            call,
+        ),
+        Call::Assign { .. } | Call::Deassign { .. } | Call::Watch { .. } | Call::Unwatch { .. } =>
+            of_irqfds(call),
+        Call::Attach { .. } | Call::Detach { .. } => of_ioevents(call),
+        Call::PortOut { .. } | Call::PortIn { .. } | Call::Store { .. } | Call::Load { .. } =>
+            of_access(call),
+        Call::Reroute { rows } => Call::Reroute {
+            rows: rows_of(alloc, rows)?,
+        },
+        Call::Tick => Call::Tick,
+        Call::TickMode { reinject } => Call::TickMode {
+            reinject: *reinject,
         },
         Call::Ack => Call::Ack,
         Call::Inta => Call::Inta,

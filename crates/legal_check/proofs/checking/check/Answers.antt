@@ -1,6 +1,8 @@
-use Rattle.std.proofs.Common.{◌≡◌, ◌+◌, ◌≤◌, List, length, take, ap, sym, ◌∙◌, subst, arith}
+use Rattle.std.proofs.Common.{◌+◌, ◌≤◌, List, length, take, sym, ◌∙◌, subst, arith}
 use Rattle.board_step.proofs.Listed.{take_there}
 use Rattle.script_text.specs.declared.progress.Progress.{Progress}
+use Rattle.legal_check.specs.declared.verdict.Verdict.{Verdict}
+use Rattle.legal_check.specs.Verdicts.{IsVerdict}
 use Rattle.legal_check.specs.Standing.{HaveFollowed}
 use Rattle.legal_check.proofs.Tried.{Running, goes, flawed, fits, ends-badly, written_back, true-false}
 use Rattle.legal_check.proofs.checking.check.Goals as goal
@@ -10,8 +12,9 @@ returns-in-Some c =
     let s = c.args.script.now in
     let before = take c.loop-place.place c.args.run.now.history in
     let have = subst (λ (ps : List Progress). HaveFollowed s before ps) (sym c.as_mut_slice.ensures.value) c.loop-place.invariant.followed in
-    flawed s c.args.run.now c.loop-place.place c.loop-place.board c.loop-place.all.items c.at.result.now c.in-Some.cause c.at.ensures
-    c.loop-place.invariant (c.in-Some.ensures.flaw before have)
+    subst (λ (v : Verdict). IsVerdict s c.args.run.now v) (sym c.not_at.ensures)
+    (flawed s c.args.run.now c.loop-place.place c.loop-place.board c.loop-place.all.items c.at.result.now c.in-Some.cause c.at.ensures
+    c.loop-place.invariant (c.in-Some.ensures.flaw before have))
 
 pub loop-place-preserved : goal.loop-place-preserved
 loop-place-preserved c =
@@ -50,5 +53,6 @@ returns c =
     let all = c.len-place-end.ensures in
     let over : length run.history ≤ place = omega (arith, past, all) in
     let have = subst (λ (ps : List Progress). HaveFollowed s before ps) (sym c.as_slice.ensures.value) c.loop-place.invariant.followed in
-    ends-badly s run c.len.result place c.loop-place.board c.loop-place.all.items c.len.ensures over c.loop-place.invariant
-    (λ ends. true-false c.ends_well.result ((c.ends_well.ensures before have).1 ends) c.if-ends_well.false)
+    subst (λ (v : Verdict). IsVerdict s run v) (sym c.not_at-else-ends_well.ensures)
+    (ends-badly s run c.len.result place c.loop-place.board c.loop-place.all.items c.len.ensures over c.loop-place.invariant
+    (λ ends. true-false c.ends_well.result ((c.ends_well.ensures before have).1 ends) c.if-ends_well.false))

@@ -1,9 +1,9 @@
 use Rattle.std.proofs.Common.{refl}
 use Rattle.legal_check.proofs.checking.flaw_of.Goals as goal
 
-pub returns-then-follow-clause-goes : goal.returns-then-follow-clause-goes
-returns-then-follow-clause-goes c = λ before have. record {
+pub returns-then-follows-clause-goes : goal.returns-then-follows-clause-goes
+returns-then-follows-clause-goes c = λ before have. record {
   asked = c.in-Some.ensures.is before have;
-  step = c.follow.ensures.leads c.if-follow.true;
-  followed = c.follow-then-follow.ensures before c.args.entry.now have c.in-Some.ensures.found.1 refl;
+  step = c.follows.ensures.leads c.if-follows.true;
+  followed = c.follow.ensures before c.args.entry.now have c.in-Some.ensures.found.1 refl;
 }

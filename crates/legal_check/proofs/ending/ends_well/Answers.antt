@@ -1,5 +1,5 @@
 use Rattle.std.proofs.Common.{◌↔◌, Bool, IsTrue, sym, subst}
-use Rattle.legal_check.specs.Verdicts.{EndsWell}
+use Rattle.script_histories.specs.Merging.{EndsWell}
 use Rattle.legal_check.proofs.ending.ends_well.Goals as goal
 
 pub returns-else-spent : goal.returns-else-spent

@@ -1,4 +1,4 @@
-use Rattle.std.proofs.Common.{◌∙◌, Some, None, subst}
+use Rattle.std.proofs.Common.{◌∙◌, subst}
 use Rattle.irq_base.specs.declared.call.Call.TheVariants.{Ack}
 use Rattle.script_text.specs.Asks.{Asks, ask, rounds, after_ack}
 use Rattle.replaying.specs.Played.{Played}

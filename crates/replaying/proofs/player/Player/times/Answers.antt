@@ -1,4 +1,4 @@
-use Rattle.std.proofs.Common.{◌∙◌, Some, None, subst}
+use Rattle.std.proofs.Common.{◌∙◌, subst}
 use Rattle.script_text.specs.Asks.{once, times}
 use Rattle.replaying.specs.Played.{Played}
 use Rattle.replaying.proofs.Loops.{times_grow, makes_next, makes_stopped, makes_all}
