@@ -216,3 +216,25 @@ fn of_accesses(rt: HostRuntime) -> Result<(), Fail> {
         ",
     )
 }
+
+// Tables and arguments that are refused, one after another; the table stands until one is taken that has no rows.
+#[test]
+fn of_tables_and_arguments(rt: HostRuntime) -> Result<(), Fail> {
+    plays(
+        rt.alloc(),
+        "
+        cpus 1
+        dev0 reroute 9=io.9 9=io.10 -> refused 4 chip-twice
+        dev0 reroute 9=io.9 8=io.9 -> refused 6 pin-twice
+        dev0 reroute 5=msi.fee00000.00000041 5=io.5 -> refused 5 mixed
+        dev0 reroute 5=io.24 -> refused 3 bad-row
+        dev0 line 9 0 up -> ignored masked
+        dev0 reroute -> done
+        dev0 line 9 0 down -> ignored unrouted
+        dev0 line 4096 0 up -> refused 1 no-gsi
+        dev0 line 5 8 up -> refused 16 no-line
+        dev0 msi fed00000 00000041 -> refused 17 bad-msi
+        dev0 take 16 -> refused 2 no-counter
+        ",
+    )
+}

@@ -1,5 +1,7 @@
-//! Tests of the board as a value: shapes, and a board's parts.
+//! Tests of the board as a value: shapes, a board's parts, and a caller's way to it.
 #![tactic(auto)]
 
 #[cfg(test)]
 mod boards;
+#[cfg(test)]
+mod faces;
