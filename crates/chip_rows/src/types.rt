@@ -125,7 +125,6 @@ fn spells_refusals_callers_and_causes(rt: HostRuntime) -> Result<(), Fail> {
         (LineCause::Count, "count"),
         (LineCause::Number, "number"),
         (LineCause::Actor, "actor"),
-        (LineCause::Unbuilt, "unbuilt"),
     ] {
         let spelled = cause.to_string(rt.alloc())?;
         assert_eq!(rt; spelled.as_str(), text);

@@ -15,7 +15,7 @@ use Rattle.irq_base.specs.declared.event.Pin.TheVariants.{Pic, Ioapic}
 use Rattle.irq_base.specs.declared.event.Event.{Event}
 use Rattle.irq_base.specs.declared.event.Event.TheVariants.{Acked, Resampled, Watched, Rang, Injected, Resent, Ipi}
 use Rattle.irq_base.specs.declared.fault.LineCause.{LineCause}
-use Rattle.irq_base.specs.declared.fault.LineCause.TheVariants.{Cut, Char, End, Word, Count, Number, Actor, Unbuilt}
+use Rattle.irq_base.specs.declared.fault.LineCause.TheVariants.{Cut, Char, End, Word, Count, Number, Actor}
 
 -- lower-case hexadecimal, with no leading zeros
 abbrev pub hex : ℕ → List ℕ
@@ -65,4 +65,3 @@ line_cause_text Word = codes "word"
 line_cause_text Count = codes "count"
 line_cause_text Number = codes "number"
 line_cause_text Actor = codes "actor"
-line_cause_text Unbuilt = codes "unbuilt"

@@ -18,8 +18,6 @@ pub enum LineCause {
     Number,
     /// A processor or device that is not there, or may not ask this.
     Actor,
-    /// A line that this program does not read yet.
-    Unbuilt,
 }
 
 impl fmt::Display for LineCause {
@@ -37,7 +35,6 @@ impl fmt::Display for LineCause {
             LineCause::Count => write!(f, "count"),
             LineCause::Number => write!(f, "number"),
             LineCause::Actor => write!(f, "actor"),
-            LineCause::Unbuilt => write!(f, "unbuilt"),
         }
     }
 }

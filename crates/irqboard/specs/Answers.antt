@@ -1,18 +1,15 @@
 -- What the program answers, and when.
-use Rattle.std.specs.Prelude.{◌≡◌, ℕ, ◌≤◌, Bool, false, List, [], ◌∷◌, ◌++◌, length, take, codes, Ok, Err, Some, None}
+use Rattle.std.specs.Prelude.{◌≡◌, ℕ, ◌≤◌, List, [], ◌∷◌, ◌++◌, length, take, codes, Some, None}
 use Rattle.std.specs.declared.option.Option.{Option}
 use Rattle.std.specs.Fmt.{decimal}
-use Rattle.irq_base.specs.declared.call.Call.{Call}
-use Rattle.irq_base.specs.declared.fault.LineCause.TheVariants.{Unbuilt}
+use Rattle.irq_base.specs.declared.reply.Spent.{Spent as Limit}
+use Rattle.irq_base.specs.declared.reply.Spent.TheVariants.{Calls, Publications}
 use Rattle.irq_base.specs.Text.{line_cause_text}
-use Rattle.irqboard.specs.Lines.{same_text}
-use Rattle.irqboard.specs.SmallForm.{script_of}
-use Rattle.irqboard.specs.Board.{opening, history}
-use Rattle.irqboard.specs.Scripts.{script_text}
-use Rattle.irqboard.specs.Transcript.{transcript_text}
 use Rattle.irqboard.specs.Input.{IsBeyond, HasRead}
+use Rattle.irqboard.specs.Works.{Works, HasBadLine, IsInGrammar}
+use Rattle.irqboard.specs.declared.command.Command.{Command}
 use Rattle.irqboard.specs.declared.outcome.Outcome.{Outcome}
-use Rattle.irqboard.specs.declared.outcome.Outcome.TheVariants.{Fine, Usage, BadInput, ReadFault, WriteFault, NoMemory, TooLong}
+use Rattle.irqboard.specs.declared.outcome.Outcome.TheVariants.{Fine, Usage, BadInput, ReadFault, WriteFault, NoMemory, TooLong, NotLegal, Spent}
 
 -- the exit status
 abbrev pub status_of : Outcome → ℕ
@@ -23,6 +20,13 @@ status_of ReadFault = 3
 status_of WriteFault = 4
 status_of NoMemory = 5
 status_of (TooLong bytes) = 6
+status_of (NotLegal at flaw) = 7
+status_of (Spent limit) = 8
+
+-- a limit that is reached
+abbrev pub limit_text : Limit → List ℕ
+limit_text (Calls at) = decimal at ++ codes " calls"
+limit_text (Publications at) = decimal at ++ codes " publications"
 
 -- the line for standard error, without its line feed; empty where there is none
 abbrev pub message_of : Outcome → List ℕ
@@ -33,6 +37,8 @@ message_of ReadFault = codes "read fault"
 message_of WriteFault = codes "write fault"
 message_of NoMemory = codes "no memory"
 message_of (TooLong bytes) = codes "input longer than 16777216 bytes"
+message_of (NotLegal at flaw) = []
+message_of (Spent limit) = codes "spent at " ++ limit_text limit
 
 -- what is said on standard error: the line with its line feed, or nothing
 abbrev pub with_feed : List ℕ → List ℕ
@@ -42,53 +48,60 @@ with_feed (b ∷ bs) = (b ∷ bs) ++ codes "\n"
 abbrev pub said_of : Outcome → List ℕ
 said_of outcome = with_feed (message_of outcome)
 
--- the words are the one word `replay`
-abbrev pub is_replay : List (List ℕ) → Bool
-is_replay (word ∷ []) = same_text word (codes "replay")
-is_replay _ = false
-
 -- more than the limit was read, by at most 4,096 bytes, exactly where that is the answer; where the words are none, nothing was read
 abbrev pub ReadsRightly : Option (List ℕ) → Option (List ℕ) → Outcome → Type 0
 ReadsRightly old new (TooLong bytes) = IsBeyond bytes × HasRead old new (λ n. n ≡ bytes)
 ReadsRightly old new Usage = new ≡ old
 ReadsRightly old new _ = HasRead old new (λ n. n ≤ 16777216)
 
--- the input is the script of these calls, by its lines and as a text, and was read whole
-abbrev pub IsScriptOf : List Call → List ℕ → Option (List ℕ) → Type 0
-IsScriptOf calls input left = (script_of input ≡ Ok calls) × (input ≡ script_text calls) × (left ≡ Some [])
+-- the work of a command on an input was done, with this answer
+abbrev pub Did : Command → List ℕ → Outcome → Type 0
+Did command input outcome = (text : List ℕ) × Works command input outcome text
 
--- the input is a script, and was read whole
-abbrev pub IsScript : List ℕ → Option (List ℕ) → Type 0
-IsScript input left = (calls : List Call) × IsScriptOf calls input left
+-- What an answer tells of the input, where the source tells it: that it was read whole, and has this first bad line with this cause; or
+-- that it was read whole and the work was done, with this answer, or before the sink failed.
+abbrev pub JudgesRightly : Command → Option (List ℕ) → Option (List ℕ) → Outcome → Type 0
+JudgesRightly command (Some input) left (BadInput line cause) = HasBadLine command input line cause × (left ≡ Some [])
+JudgesRightly command (Some input) left Fine = Did command input Fine × (left ≡ Some [])
+JudgesRightly command (Some input) left (NotLegal at flaw) = Did command input (NotLegal at flaw) × (left ≡ Some [])
+JudgesRightly command (Some input) left (Spent limit) = Did command input (Spent limit) × (left ≡ Some [])
+JudgesRightly command (Some input) left WriteFault = ((outcome : Outcome) × Did command input outcome) × (left ≡ Some [])
+JudgesRightly command _ left _ = Unit {0}
 
--- what an answer tells of the input, where the source tells it: that it was read whole, and is a script, or is outside the form
--- first at that line
-abbrev pub JudgesRightly : Option (List ℕ) → Option (List ℕ) → Outcome → Type 0
-JudgesRightly (Some input) left Fine = IsScript input left
-JudgesRightly (Some input) left WriteFault = IsScript input left
-JudgesRightly (Some input) left (BadInput line cause) = (script_of input ≡ Err line) × (cause ≡ Unbuilt) × (left ≡ Some [])
-JudgesRightly _ left _ = Unit {0}
+-- the whole text of the work was written
+abbrev pub Wrote : Command → List ℕ → Outcome → List ℕ → Option (List ℕ) → Type 0
+Wrote command input outcome held holds = (text : List ℕ) × Works command input outcome text × (holds ≡ Some (held ++ text))
 
--- the transcript of the legal history of these calls in their order
-abbrev pub replay_text : List Call → List ℕ
-replay_text calls = transcript_text (history opening calls)
+-- a front of it was written
+abbrev pub WroteFront : Command → List ℕ → List ℕ → Option (List ℕ) → Type 0
+WroteFront command input held holds =
+    (outcome : Outcome) × (text : List ℕ) × (n : ℕ) × Works command input outcome text × (n ≤ length text)
+    × (holds ≡ Some (held ++ take n text))
 
--- what an answer tells of the output, where the sink tells what it holds: the whole text was written, or a front of it, or nothing
-abbrev pub WritesRightly : Option (List ℕ) → Option (List ℕ) → Option (List ℕ) → Outcome → Type 0
-WritesRightly (Some input) (Some held) holds Fine = (calls : List Call) × (script_of input ≡ Ok calls) × (holds ≡ Some (held ++ replay_text calls))
-WritesRightly (Some input) (Some held) holds WriteFault =
-    (calls : List Call) × (n : ℕ) × (script_of input ≡ Ok calls) × (n ≤ length (replay_text calls)) × (holds ≡ Some (held ++ take n (replay_text calls)))
-WritesRightly _ old holds Fine = Unit {0}
-WritesRightly _ old holds WriteFault = Unit {0}
-WritesRightly _ old holds _ = holds ≡ old
+-- what an answer tells of the output, where the source tells the input and the sink what it holds: the whole text was written, or a
+-- front of it
+abbrev pub WritesRightly : Command → Option (List ℕ) → Option (List ℕ) → Option (List ℕ) → Outcome → Type 0
+WritesRightly command (Some input) (Some held) holds Fine = Wrote command input Fine held holds
+WritesRightly command (Some input) (Some held) holds (NotLegal at flaw) = Wrote command input (NotLegal at flaw) held holds
+WritesRightly command (Some input) (Some held) holds (Spent limit) = Wrote command input (Spent limit) held holds
+WritesRightly command (Some input) (Some held) holds WriteFault = WroteFront command input held holds
+WritesRightly command _ _ holds _ = Unit {0}
 
--- the work was done, or there was want of memory
-abbrev pub IsDone : Outcome → Type 0
-IsDone Fine = Unit {0}
-IsDone NoMemory = Unit {0}
-IsDone _ = ⊥
+-- where no work was done, nothing was written
+abbrev pub KeepsSilent : Option (List ℕ) → Option (List ℕ) → Outcome → Type 0
+KeepsSilent old new Fine = Unit {0}
+KeepsSilent old new (NotLegal at flaw) = Unit {0}
+KeepsSilent old new (Spent limit) = Unit {0}
+KeepsSilent old new WriteFault = Unit {0}
+KeepsSilent old new _ = new ≡ old
 
--- a script within the limit
-abbrev pub IsGood : Option (List ℕ) → Type 0
-IsGood (Some input) = (calls : List Call) × (script_of input ≡ Ok calls) × (length input ≤ 16777216)
-IsGood None = ⊥
+-- an input in the grammar and within the limit
+abbrev pub IsGood : Command → Option (List ℕ) → Type 0
+IsGood command (Some input) = IsInGrammar command input × (length input ≤ 16777216)
+IsGood command None = ⊥
+
+-- the work was done, with this answer, or there was want of memory
+abbrev pub IsAnswered : Command → Option (List ℕ) → Outcome → Type 0
+IsAnswered command _ NoMemory = Unit {0}
+IsAnswered command (Some input) outcome = Did command input outcome
+IsAnswered command None outcome = Unit {0}

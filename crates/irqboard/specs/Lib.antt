@@ -1,11 +1,8 @@
 pub mod Input
 pub mod Output
-pub mod Numbers
-pub mod Lines
-pub mod SmallForm
-pub mod Faults
-pub mod Transcript
-pub mod Board
+pub mod Parting
+pub mod Commands
+pub mod Works
+pub mod Done
 pub mod Answers
-pub mod Scripts
 pub mod Words

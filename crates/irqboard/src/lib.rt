@@ -1,24 +1,23 @@
-//! The interrupt board's top call: the words of a command line and bytes in, a transcript or a named answer out.
+//! The interrupt board's top call: the words of a command line and bytes in, a transcript, a verdict or a named answer out.
 //!
 //! `irqboard` is all that the program does, over any source, sink and gate; `asked`, `said` and the report of `Ended` add the words
-//! of the command line, the line on standard error and the exit status. Its contract says of each answer when it comes: at
-//! `Outcome::Fine` the input was a script of the form of `specs/SmallForm.antt`, and the sink gained the text
-//! (`specs/Transcript.antt`) of the history of its calls on the board of `specs/Board.antt`.
+//! of the command line, the line on standard error and the exit status. Its contract says of each answer when it comes: `Works` says what
+//! is written at `Outcome::Fine`, `Outcome::Spent` and `Outcome::NotLegal`.
+//!
+//! Reading order of the definitions: `Parting`, `Works`, `Commands`, `Input`, `Output`, `Answers`, `Words`.
 #![tactic(auto)]
 
-mod board;
-mod lines;
-mod numbers;
+mod command;
 mod outcome;
+mod parting;
 mod program;
 mod reading;
-mod replaying;
-mod small_form;
-mod spelling;
 mod top;
 mod words;
+mod work;
 mod writing;
 
+pub use command::Command;
 pub use outcome::Outcome;
 pub use program::{Answered, Ended, asked};
-pub use top::{irqboard, replay};
+pub use top::{check_text, irqboard, replay};

@@ -1,11 +1,12 @@
 //! What the program answers.
-ghost use Rattle.std.specs.Prelude.{◌≡◌, ◌<◌, ◌≤◌, [], length};
+ghost use Rattle.std.specs.Prelude.{◌≡◌, ◌<◌, ◌≤◌, ◌++◌, [], length};
 ghost use Rattle.irq_base.specs.Text.{line_cause_text};
-ghost use Rattle.irqboard.specs.Answers.{status_of, message_of, said_of};
+ghost use Rattle.irqboard.specs.Answers.{status_of, message_of, said_of, limit_text};
 
 use arrayvec::ArrayString;
-use irq_base::LineCause;
+use irq_base::{LineCause, Spent};
 use itoa::Buffer;
+use legal_check::Flaw;
 use std::fmt;
 
 // The words that the program is to have.
@@ -28,7 +29,24 @@ fn word_of(cause: LineCause) -> &'static str
         LineCause::Count => "count",
         LineCause::Number => "number",
         LineCause::Actor => "actor",
-        LineCause::Unbuilt => "unbuilt",
+    }
+}
+
+// Puts the limit at the end of the room.
+fn put_limit(spent: Spent, room: &mut ArrayString<LINE_ROOM>)
+    requires { length room.old.bytes < 100 }
+    ensures text { room.new.bytes ≡ room.old.bytes ++ limit_text spent }
+    ensures short { length room.new.bytes < LINE_ROOM }
+{
+    match spent {
+        Spent::Calls { at } => {
+            room.push_str(Buffer::new().format(at));
+            room.push_str(" calls");
+        }
+        Spent::Publications { at } => {
+            room.push_str(Buffer::new().format(at));
+            room.push_str(" publications");
+        }
     }
 }
 
@@ -49,6 +67,10 @@ pub enum Outcome {
     NoMemory,
     /// More bytes were read than an input may have.
     TooLong { bytes: u64 },
+    /// The transcript is no legal run of its script: the first place with a flaw, and the flaw. The verdict was written.
+    NotLegal { at: u64, cause: Flaw },
+    /// A limit of the board stopped an actor, and stopped the first such actor at this limit. The transcript was written.
+    Spent { spent: Spent },
 }
 
 impl Outcome {
@@ -64,6 +86,8 @@ impl Outcome {
             Outcome::WriteFault => 4,
             Outcome::NoMemory => 5,
             Outcome::TooLong { .. } => 6,
+            Outcome::NotLegal { .. } => 7,
+            Outcome::Spent { .. } => 8,
         }
     }
 
@@ -74,7 +98,7 @@ impl Outcome {
         ensures short { length room.new.bytes < LINE_ROOM }
     {
         match self {
-            Outcome::Fine => {}
+            Outcome::Fine | Outcome::NotLegal { .. } => {}
             Outcome::Usage => room.push_str(USAGE),
             Outcome::BadInput { line, cause } => {
                 room.push_str("line ");
@@ -86,6 +110,10 @@ impl Outcome {
             Outcome::WriteFault => room.push_str("write fault"),
             Outcome::NoMemory => room.push_str("no memory"),
             Outcome::TooLong { .. } => room.push_str("input longer than 16777216 bytes"),
+            Outcome::Spent { spent } => {
+                room.push_str("spent at ");
+                put_limit(*spent, room);
+            }
         }
     }
 

@@ -1,8 +1,9 @@
 //! A run of the program: its words, its work, its line on standard error and its exit status.
-ghost use Rattle.std.specs.Prelude.{◌≡◌, ◌≢◌, IfOk, IsTrue};
+ghost use Rattle.std.specs.Prelude.{◌≡◌, ◌≢◌, IfOk, IfSome};
 ghost use Rattle.std.specs.Io.KnownBytes.{Appends};
 ghost use Rattle.io_edge.specs.Faults.{Rose};
-ghost use Rattle.irqboard.specs.Answers.{is_replay, status_of, said_of, ReadsRightly, JudgesRightly, WritesRightly, IsGood, IsDone};
+ghost use Rattle.irqboard.specs.Commands.{command_of};
+ghost use Rattle.irqboard.specs.Answers.{status_of, said_of, ReadsRightly, JudgesRightly, WritesRightly, KeepsSilent, IsGood, IsAnswered};
 ghost use Rattle.irqboard.specs.Output.{AppendsFront};
 ghost use Rattle.irqboard.specs.Words.{words_in, KnowsWords};
 ghost use Rattle.std.specs.Process.{exit_status};
@@ -56,17 +57,19 @@ pub fn asked<S: Source, K: Sink, G: Gate>(
 ) -> Answered
     ensures usage { KnowsWords texts result }
     ensures length { ReadsRightly (S.left source.old) (S.left source.new) result }
-    ensures input { JudgesRightly (S.left source.old) (S.left source.new) result }
-    ensures output { WritesRightly (S.left source.old) (K.holds sink.old) (K.holds sink.new) result }
+    ensures input { IfOk texts (λ t. IfSome (command_of (words_in t)) (λ command.
+        JudgesRightly command (S.left source.old) (S.left source.new) result)) }
+    ensures output { IfOk texts (λ t. IfSome (command_of (words_in t)) (λ command.
+        WritesRightly command (S.left source.old) (K.holds sink.old) (K.holds sink.new) result)) }
+    ensures silent { KeepsSilent (K.holds sink.old) (K.holds sink.new) result }
     ensures read_fault { result ≡ Outcome.ReadFault → Rose (S.faults source.old) (S.faults source.new) }
     ensures write_fault { result ≡ Outcome.WriteFault → Rose (K.faults sink.old) (K.faults sink.new) }
     ensures source_faults { result ≢ Outcome.ReadFault → S.faults source.new ≡ S.faults source.old }
     ensures sink_faults { result ≢ Outcome.WriteFault → K.faults sink.new ≡ K.faults sink.old }
-    ensures complete { IfOk texts (λ t. IsTrue (is_replay (words_in t))
-        → IsGood (S.left source.old)
+    ensures complete { IfOk texts (λ t. IfSome (command_of (words_in t)) (λ command. IsGood command (S.left source.old)
         → ¬ Rose (S.faults source.old) (S.faults source.new)
         → ¬ Rose (K.faults sink.old) (K.faults sink.new)
-        → IsDone result) }
+        → IsAnswered command (S.left source.old) result)) }
 {
     let texts = match texts {
         Ok(texts) => texts,

@@ -1,33 +1,33 @@
 //! The top call, and the calls for its words.
-ghost use Rattle.std.specs.Prelude.{◌≡◌, ◌≢◌, ◌↔◌, IsTrue, not};
+ghost use Rattle.std.specs.Prelude.{◌≡◌, ◌≢◌, ◌↔◌, None, IfSome};
 ghost use Rattle.io_edge.specs.Faults.{Rose};
-ghost use Rattle.irqboard.specs.Answers.{is_replay, ReadsRightly, JudgesRightly, WritesRightly, IsGood, IsDone};
+ghost use Rattle.irqboard.specs.Commands.{command_of};
+ghost use Rattle.irqboard.specs.Answers.{ReadsRightly, JudgesRightly, WritesRightly, KeepsSilent, IsGood, IsAnswered};
 
+use crate::command::{Command, command_of};
 use crate::outcome::Outcome;
 use crate::reading::{Stop, read_whole};
-use crate::replaying::run;
-use crate::small_form::{ScriptFault, parse};
-use crate::spelling::print;
+use crate::work::work_of;
 use crate::writing::write_whole;
 use io_edge::{Gate, Sink, Source, Word};
-use irq_base::LineCause;
+use script_text::ScriptFault;
 use std::alloc::Global;
 
-/// Reads a script and writes the transcript of its lines, asked in file order on one thread. It first reads the whole input,
-/// then judges its form, then does the work, then writes the text.
-pub fn replay<S: Source, K: Sink>(alloc: Global, source: &mut S, sink: &mut K) -> Outcome
+// Reads the whole input, does the work of a command on it, and writes the text of the work.
+fn run<S: Source, K: Sink>(alloc: Global, command: Command, source: &mut S, sink: &mut K) -> Outcome
     ensures usage { result ≢ Outcome.Usage }
     ensures length { ReadsRightly (S.left source.old) (S.left source.new) result }
-    ensures input { JudgesRightly (S.left source.old) (S.left source.new) result }
-    ensures output { WritesRightly (S.left source.old) (K.holds sink.old) (K.holds sink.new) result }
+    ensures input { JudgesRightly command (S.left source.old) (S.left source.new) result }
+    ensures output { WritesRightly command (S.left source.old) (K.holds sink.old) (K.holds sink.new) result }
+    ensures silent { KeepsSilent (K.holds sink.old) (K.holds sink.new) result }
     ensures read_fault { result ≡ Outcome.ReadFault → Rose (S.faults source.old) (S.faults source.new) }
     ensures write_fault { result ≡ Outcome.WriteFault → Rose (K.faults sink.old) (K.faults sink.new) }
     ensures source_faults { result ≢ Outcome.ReadFault → S.faults source.new ≡ S.faults source.old }
     ensures sink_faults { result ≢ Outcome.WriteFault → K.faults sink.new ≡ K.faults sink.old }
-    ensures complete { IsGood (S.left source.old)
+    ensures complete { IsGood command (S.left source.old)
         → ¬ Rose (S.faults source.old) (S.faults source.new)
         → ¬ Rose (K.faults sink.old) (K.faults sink.new)
-        → IsDone result }
+        → IsAnswered command (S.left source.old) result }
 {
     let input = match read_whole(alloc, source) {
         Ok(input) => input,
@@ -35,40 +35,59 @@ pub fn replay<S: Source, K: Sink>(alloc: Global, source: &mut S, sink: &mut K) -
         Err(Stop::Memory) => return Outcome::NoMemory,
         Err(Stop::TooLong(bytes)) => return Outcome::TooLong { bytes },
     };
-    let calls = match parse(alloc, &input) {
-        Ok(calls) => calls,
-        Err(ScriptFault::BadLine { line }) => {
-            return Outcome::BadInput {
-                line,
-                cause: LineCause::Unbuilt,
-            };
-        }
+    let done = match work_of(alloc, command, &input) {
+        Ok(done) => done,
+        Err(ScriptFault::BadLine { line, cause }) => return Outcome::BadInput { line, cause },
         Err(ScriptFault::NoMemory) => return Outcome::NoMemory,
     };
-    let Ok(history) = run(alloc, calls) else {
-        return Outcome::NoMemory;
-    };
-    let Ok(text) = print(alloc, &history) else {
-        return Outcome::NoMemory;
-    };
-    match write_whole(sink, text.as_bytes()) {
-        Ok(()) => Outcome::Fine,
+    match write_whole(sink, done.text.as_slice()) {
+        Ok(()) => done.outcome,
         Err(_) => Outcome::WriteFault,
     }
 }
 
-// Whether the words are the one word `replay`.
-fn is_replay(words: &[Word]) -> bool
-    ensures { result ≡ is_replay words.now }
+/// Reads a script and writes the transcript of its lines, asked in file order on one thread. It first reads the whole input,
+/// then judges its lines, then does the work, then writes the text.
+pub fn replay<S: Source, K: Sink>(alloc: Global, source: &mut S, sink: &mut K) -> Outcome
+    ensures usage { result ≢ Outcome.Usage }
+    ensures length { ReadsRightly (S.left source.old) (S.left source.new) result }
+    ensures input { JudgesRightly Command.Replay (S.left source.old) (S.left source.new) result }
+    ensures output { WritesRightly Command.Replay (S.left source.old) (K.holds sink.old) (K.holds sink.new) result }
+    ensures silent { KeepsSilent (K.holds sink.old) (K.holds sink.new) result }
+    ensures read_fault { result ≡ Outcome.ReadFault → Rose (S.faults source.old) (S.faults source.new) }
+    ensures write_fault { result ≡ Outcome.WriteFault → Rose (K.faults sink.old) (K.faults sink.new) }
+    ensures source_faults { result ≢ Outcome.ReadFault → S.faults source.new ≡ S.faults source.old }
+    ensures sink_faults { result ≢ Outcome.WriteFault → K.faults sink.new ≡ K.faults sink.old }
+    ensures complete { IsGood Command.Replay (S.left source.old)
+        → ¬ Rose (S.faults source.old) (S.faults source.new)
+        → ¬ Rose (K.faults sink.old) (K.faults sink.new)
+        → IsAnswered Command.Replay (S.left source.old) result }
 {
-    match words {
-        [word] => word.bytes() == b"replay".as_slice(),
-        _ => false,
-    }
+    run(alloc, Command::Replay, source, sink)
 }
 
-/// All that the program does: the word `replay` alone replays a script, and any other words are refused. The gate is for words
-/// that run actors side by side.
+/// Reads a script and a transcript behind it, and writes the verdict on the transcript. It first reads the whole input, then judges its
+/// lines, then does the work, then writes the text.
+pub fn check_text<S: Source, K: Sink>(alloc: Global, source: &mut S, sink: &mut K) -> Outcome
+    ensures usage { result ≢ Outcome.Usage }
+    ensures length { ReadsRightly (S.left source.old) (S.left source.new) result }
+    ensures input { JudgesRightly Command.Check (S.left source.old) (S.left source.new) result }
+    ensures output { WritesRightly Command.Check (S.left source.old) (K.holds sink.old) (K.holds sink.new) result }
+    ensures silent { KeepsSilent (K.holds sink.old) (K.holds sink.new) result }
+    ensures read_fault { result ≡ Outcome.ReadFault → Rose (S.faults source.old) (S.faults source.new) }
+    ensures write_fault { result ≡ Outcome.WriteFault → Rose (K.faults sink.old) (K.faults sink.new) }
+    ensures source_faults { result ≢ Outcome.ReadFault → S.faults source.new ≡ S.faults source.old }
+    ensures sink_faults { result ≢ Outcome.WriteFault → K.faults sink.new ≡ K.faults sink.old }
+    ensures complete { IsGood Command.Check (S.left source.old)
+        → ¬ Rose (S.faults source.old) (S.faults source.new)
+        → ¬ Rose (K.faults sink.old) (K.faults sink.new)
+        → IsAnswered Command.Check (S.left source.old) result }
+{
+    run(alloc, Command::Check, source, sink)
+}
+
+/// All that the program does: the word `replay` alone replays a script, the word `check` alone checks a transcript, and any other words
+/// are refused. The gate is for words that run actors side by side.
 pub fn irqboard<S: Source, K: Sink, G: Gate>(
     alloc: Global,
     words: &[Word],
@@ -76,23 +95,25 @@ pub fn irqboard<S: Source, K: Sink, G: Gate>(
     sink: &mut K,
     _gate: &G,
 ) -> Outcome
-    ensures usage { (result ≡ Outcome.Usage) ↔ IsTrue (not (is_replay words.now)) }
+    ensures usage { (result ≡ Outcome.Usage) ↔ (command_of words.now ≡ None) }
     ensures length { ReadsRightly (S.left source.old) (S.left source.new) result }
-    ensures input { JudgesRightly (S.left source.old) (S.left source.new) result }
-    ensures output { WritesRightly (S.left source.old) (K.holds sink.old) (K.holds sink.new) result }
+    ensures input { IfSome (command_of words.now) (λ command.
+        JudgesRightly command (S.left source.old) (S.left source.new) result) }
+    ensures output { IfSome (command_of words.now) (λ command.
+        WritesRightly command (S.left source.old) (K.holds sink.old) (K.holds sink.new) result) }
+    ensures silent { KeepsSilent (K.holds sink.old) (K.holds sink.new) result }
     ensures read_fault { result ≡ Outcome.ReadFault → Rose (S.faults source.old) (S.faults source.new) }
     ensures write_fault { result ≡ Outcome.WriteFault → Rose (K.faults sink.old) (K.faults sink.new) }
     ensures source_faults { result ≢ Outcome.ReadFault → S.faults source.new ≡ S.faults source.old }
     ensures sink_faults { result ≢ Outcome.WriteFault → K.faults sink.new ≡ K.faults sink.old }
-    ensures complete { IsTrue (is_replay words.now)
-        → IsGood (S.left source.old)
+    ensures complete { IfSome (command_of words.now) (λ command. IsGood command (S.left source.old)
         → ¬ Rose (S.faults source.old) (S.faults source.new)
         → ¬ Rose (K.faults sink.old) (K.faults sink.new)
-        → IsDone result }
+        → IsAnswered command (S.left source.old) result) }
 {
-    if is_replay(words) {
-        replay(alloc, source, sink)
-    } else {
-        Outcome::Usage
+    match command_of(words) {
+        Some(Command::Replay) => replay(alloc, source, sink),
+        Some(Command::Check) => check_text(alloc, source, sink),
+        None => Outcome::Usage,
     }
 }

@@ -1,8 +1,9 @@
 //! Each answer that is not the transcript, and its status and line.
 use crate::ends::{FIRST_SCRIPT, FIRST_TRANSCRIPT, ask, replayed};
 use io_edge::{MemSink, MemSource};
-use irq_base::LineCause;
+use irq_base::{LineCause, Spent};
 use irqboard::Outcome;
+use legal_check::Flaw;
 use std::test::Fail;
 
 // The usage line.
@@ -10,16 +11,16 @@ pub const USAGE: &str =
     "usage: irqboard replay | run | check | gen START LINES CPUS | sum START LINES CPUS";
 
 // Answers with their statuses and their lines for standard error.
-const ANSWERS: [(Outcome, u8, &str); 7] = [
+const ANSWERS: [(Outcome, u8, &str); 10] = [
     (Outcome::Fine, 0, ""),
     (Outcome::Usage, 1, USAGE),
     (
         Outcome::BadInput {
             line: 3,
-            cause: LineCause::Unbuilt,
+            cause: LineCause::Count,
         },
         2,
-        "line 3: unbuilt",
+        "line 3: count",
     ),
     (Outcome::ReadFault, 3, "read fault"),
     (Outcome::WriteFault, 4, "write fault"),
@@ -28,6 +29,28 @@ const ANSWERS: [(Outcome, u8, &str); 7] = [
         Outcome::TooLong { bytes: 16_777_217 },
         6,
         "input longer than 16777216 bytes",
+    ),
+    (
+        Outcome::NotLegal {
+            at: 3,
+            cause: Flaw::Ending,
+        },
+        7,
+        "",
+    ),
+    (
+        Outcome::Spent {
+            spent: Spent::Calls { at: 5 },
+        },
+        8,
+        "spent at 5 calls",
+    ),
+    (
+        Outcome::Spent {
+            spent: Spent::Publications { at: 1 },
+        },
+        8,
+        "spent at 1 publications",
     ),
 ];
 
@@ -49,7 +72,10 @@ fn other_words_are_refused(rt: HostRuntime) -> Result<(), Fail> {
         "Replay",
         "replay replay",
         "run",
-        "check",
+        "checks",
+        "chec",
+        "check check",
+        "replay check",
         "--help",
     ] {
         let input = FIRST_SCRIPT.as_bytes().to_vec(rt.alloc())?;
@@ -107,14 +133,14 @@ fn each_failing_call_is_a_fault(rt: HostRuntime) -> Result<(), Fail> {
     Ok(())
 }
 
-// An input of exactly the limit is judged by its form, and one byte more is too long.
+// An input of exactly the limit is judged by its lines, and one byte more is too long.
 #[test]
 fn an_input_has_a_limit(rt: HostRuntime) -> Result<(), Fail> {
     let mut input = Vec::new(rt.alloc());
     input.resize(16_777_216, b'#')?;
     let (outcome, _) = replayed(rt.alloc(), input)?;
     let line = 1;
-    let cause = LineCause::Unbuilt;
+    let cause = LineCause::Cut;
     assert_eq!(rt; outcome, Outcome::BadInput { line, cause });
     let mut input = Vec::new(rt.alloc());
     input.resize(16_777_217, b'#')?;
@@ -142,15 +168,5 @@ fn ample_memory_is_enough(rt: HostRuntime) -> Result<(), Fail> {
         sink.bytes()
             .ends_with(b"\n19999 cpu0 ack -> nothing\nend 20000\n")
     );
-    Ok(())
-}
-
-// Actor lines begin at line 3, and the 1,000,001st is one too many.
-#[test]
-fn a_script_has_a_million_actor_lines(rt: HostRuntime) -> Result<(), Fail> {
-    let (outcome, _) = replayed(rt.alloc(), script_of(&rt, 1_000_001)?)?;
-    let line = 1_000_003;
-    let cause = LineCause::Unbuilt;
-    assert_eq!(rt; outcome, Outcome::BadInput { line, cause });
     Ok(())
 }

@@ -39,12 +39,49 @@ pub fn ask(
     Ok(irqboard(alloc, words.as_slice(), source, sink, &OpenGate))
 }
 
-/// Replays the input, and gives the answer, and all that was written.
-pub fn replayed(alloc: Global, input: Vec<u8>) -> Result<(Outcome, MemSink), AllocError> {
+/// Asks for that one word over the input, and gives the answer, and all that was written.
+pub fn answered(
+    alloc: Global,
+    word: &str,
+    input: Vec<u8>,
+) -> Result<(Outcome, MemSink), AllocError> {
     let mut source = MemSource::of(input, 4096, Vec::new(alloc));
     let Ok(mut sink) = MemSink::of(alloc, 1 << 20, 4096, Vec::new(alloc)) else {
         return Err(AllocError);
     };
-    let outcome = ask(alloc, "replay", &mut source, &mut sink)?;
+    let outcome = ask(alloc, word, &mut source, &mut sink)?;
     Ok((outcome, sink))
+}
+
+/// Replays the input.
+pub fn replayed(alloc: Global, input: Vec<u8>) -> Result<(Outcome, MemSink), AllocError> {
+    answered(alloc, "replay", input)
+}
+
+/// Checks the transcript behind the script.
+pub fn checked(
+    alloc: Global,
+    script: &str,
+    transcript: &str,
+) -> Result<(Outcome, MemSink), AllocError> {
+    let mut input = script.as_bytes().to_vec(alloc)?;
+    input.extend_from_slice(transcript.as_bytes())?;
+    answered(alloc, "check", input)
+}
+
+/// Whether a replay of the script writes the transcript and ends so, and a check of both says that it is legal.
+pub fn is_run(
+    alloc: Global,
+    script: &str,
+    transcript: &str,
+    wanted: Outcome,
+) -> Result<bool, AllocError> {
+    let (outcome, sink) = replayed(alloc, script.as_bytes().to_vec(alloc)?)?;
+    let (verdict, line) = checked(alloc, script, transcript)?;
+    Ok(
+        outcome == wanted
+            && sink.bytes() == transcript.as_bytes()
+            && verdict == Outcome::Fine
+            && line.bytes() == b"legal\n".as_slice(),
+    )
 }

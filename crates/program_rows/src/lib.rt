@@ -2,10 +2,14 @@
 #![tactic(auto)]
 
 #[cfg(test)]
+mod checks;
+#[cfg(test)]
 mod edges;
 #[cfg(test)]
 mod ends;
 #[cfg(test)]
 mod replays;
+#[cfg(test)]
+mod rows;
 #[cfg(test)]
 mod runs;

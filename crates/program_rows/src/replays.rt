@@ -1,5 +1,5 @@
-//! Scripts with their transcripts, and scripts that are outside the form.
-use crate::ends::{FIRST_SCRIPT, FIRST_TRANSCRIPT, replayed};
+//! Scripts with their transcripts, and scripts that are outside the grammar.
+use crate::ends::{FIRST_SCRIPT, FIRST_TRANSCRIPT, is_run, replayed};
 use irq_base::LineCause;
 use irqboard::Outcome;
 use std::test::Fail;
@@ -60,7 +60,7 @@ const PORTS: [&str; 14] = [
     "cpu0 ack -> nothing",
 ];
 
-// Replays the left halves of the entries, and tells whether the transcript is those entries with their places.
+// Whether a replay of the left halves of the entries writes those entries with their places, and a check of both says that it is legal.
 fn is_answered(rt: &HostRuntime, entries: &[&str]) -> Result<bool, Fail> {
     let alloc = rt.alloc();
     let mut script = String::from_str(alloc, "irqboard 1\ncpus 1\n")?;
@@ -73,15 +73,13 @@ fn is_answered(rt: &HostRuntime, entries: &[&str]) -> Result<bool, Fail> {
     script.push_str("end\n")?;
     let count = entries.len();
     write!(transcript, "end {count}\n")?;
-    let (outcome, sink) = replayed(alloc, script.into_bytes())?;
-    Ok(outcome == Outcome::Fine && sink.bytes() == transcript.as_bytes())
+    Ok(is_run(alloc, script.as_str(), transcript.as_str(), Outcome::Fine)?)
 }
 
 #[test]
 fn scripts_have_their_transcripts(rt: HostRuntime) -> Result<(), Fail> {
-    let (outcome, sink) = replayed(rt.alloc(), FIRST_SCRIPT.as_bytes().to_vec(rt.alloc())?)?;
-    assert_eq!(rt; outcome, Outcome::Fine);
-    assert_eq!(rt; sink.bytes(), FIRST_TRANSCRIPT.as_bytes());
+    let first = is_run(rt.alloc(), FIRST_SCRIPT, FIRST_TRANSCRIPT, Outcome::Fine)?;
+    assert!(rt; first);
     assert!(rt; is_answered(&rt, &NOT_ENABLED)?);
     assert!(rt; is_answered(&rt, &MERGED)?);
     assert!(rt; is_answered(&rt, &ILLEGAL_VECTOR)?);
@@ -90,51 +88,82 @@ fn scripts_have_their_transcripts(rt: HostRuntime) -> Result<(), Fail> {
     Ok(())
 }
 
-// Scripts, each with the first line that is outside the form.
-const BAD_SCRIPTS: [(&str, u32); 30] = [
-    ("", 1),
-    ("irqboard 1", 1),
-    ("irqboard 2\ncpus 1\nend\n", 1),
-    ("\nirqboard 1\ncpus 1\nend\n", 1),
-    ("irqboard 1\n", 2),
-    ("irqboard 1\ncpus 2\nend\n", 2),
-    ("irqboard 1\ncpus 01\nend\n", 2),
-    ("irqboard 1\ncpus 1\n", 3),
-    ("irqboard 1\ncpus 1\nend", 3),
+// Scripts, each with the first bad line and its cause.
+const BAD_SCRIPTS: [(&str, u32, LineCause); 28] = [
+    ("", 1, LineCause::End),
+    ("irqboard 1", 1, LineCause::Cut),
+    ("irqboard 2\ncpus 1\nend\n", 1, LineCause::Word),
+    ("irqboard\n", 1, LineCause::Count),
+    ("irqboard 1\n", 2, LineCause::End),
+    ("irqboard 1\ncpus 65\nend\n", 2, LineCause::Number),
+    ("irqboard 1\ncpus 01\nend\n", 2, LineCause::Number),
+    ("irqboard 1\nend\n", 2, LineCause::Word),
+    ("irqboard 1\ncpus 1\n", 3, LineCause::End),
+    ("irqboard 1\ncpus 1\nend", 3, LineCause::Cut),
+    ("irqboard 1\ncpus 1\ncpu0 ac", 3, LineCause::Cut),
+    ("irqboard 1\ncpus 1\ndev0 ack\nend\n", 3, LineCause::Actor),
+    ("irqboard 1\ncpus 1\ncpu0 ack \nend\n", 3, LineCause::Word),
+    ("irqboard 1\ncpus 1\nend\ncpu0 ack\n", 4, LineCause::End),
+    ("irqboard 1\ncpus 1\nend\nx", 4, LineCause::Cut),
     (
-        "irqboard 1\ncpus 1\ncpu0 tick\ncpu0 store fee000f0 4 000001ff\ncpu0 msi fee00000 00000041\ncpu0 ack\ncpu0 eoi\nend\n",
-        3,
+        "irqboard 1\ncpus 1\ncpu0 ack\ncpu0 eoi\nEND\n",
+        5,
+        LineCause::Word,
     ),
-    ("irqboard 1\ncpus 1\ncpu0 ac", 3),
-    ("irqboard 1\ncpus 1\ndev0 ack\nend\n", 3),
-    ("irqboard 1\ncpus 1\ncpu0 ack \nend\n", 3),
-    ("irqboard 1\ncpus 1\ncpu0 msi fee00000 0000004A\nend\n", 3),
-    ("irqboard 1\ncpus 1\ncpu0 msi fee00000 00000141\nend\n", 3),
-    ("irqboard 1\ncpus 1\ncpu0 msi fee00000 000000041\nend\n", 3),
-    ("irqboard 1\ncpus 1\ncpu0 msi fee01000 00000041\nend\n", 3),
-    ("irqboard 1\ncpus 1\ncpu0 store fee000f0 4 1ff\nend\n", 3),
+    ("irqboard 1\ncpus 1\ncpu0  ack\nend\n", 3, LineCause::Word),
     (
-        "irqboard 1\ncpus 1\ncpu0 store fee000f0 04 000001ff\nend\n",
+        "irqboard 1\ncpus 1\ncpu0 ack now\nend\n",
         3,
+        LineCause::Count,
     ),
-    ("irqboard 1\ncpus 1\ncpu0 ack\n\nend\n", 4),
-    ("irqboard 1\ncpus 1\ncpu0 ack\n", 4),
-    ("irqboard 1\ncpus 1\nend\ncpu0 ack\n", 4),
-    ("irqboard 1\ncpus 1\nend\nx", 4),
-    ("irqboard 1\ncpus 1\ncpu0 ack\ncpu0 eoi\nEND\n", 5),
-    ("irqboard 1\ncpus 1\ncpu0 out 020 1 11\nend\n", 3),
-    ("irqboard 1\ncpus 1\ncpu0 out 10000 1 11\nend\n", 3),
-    ("irqboard 1\ncpus 1\ncpu0 out 0020 1 011\nend\n", 3),
-    ("irqboard 1\ncpus 1\ncpu0 out 0020 1 100000000\nend\n", 3),
-    ("irqboard 1\ncpus 1\ncpu0 in 0020 256\nend\n", 3),
-    ("irqboard 1\ncpus 1\ncpu0 in 0020 1 00\nend\n", 3),
+    (
+        "irqboard 1\ncpus 1\ncpu0 msi fee00000 zz\nend\n",
+        3,
+        LineCause::Number,
+    ),
+    (
+        "irqboard 1\ncpus 1\ndev0 take 01\nend\n",
+        3,
+        LineCause::Number,
+    ),
+    ("irqboard 1\ncpus 1\ncpu1 ack\nend\n", 3, LineCause::Actor),
+    ("irqboard 1\ncpus 1\ncpu0\tack\nend\n", 3, LineCause::Char),
+    (
+        "irqboard 1\ncpus 1\ncalls 5\ncounters 3\nend\n",
+        4,
+        LineCause::Word,
+    ),
+    (
+        "irqboard 1\ncpus 1\ncpu0 out 0020 8 111111111\nend\n",
+        3,
+        LineCause::Number,
+    ),
+    (
+        "irqboard 1\ncpus 1\ncpu0 ack\nend\n# more\n",
+        5,
+        LineCause::End,
+    ),
+    (
+        "irqboard 1\ncpus 1\nrepeat 2 ack\nend\n",
+        3,
+        LineCause::Word,
+    ),
+    (
+        "irqboard 1\ncpus 1\ncpu0 repeat 0 ack\nend\n",
+        3,
+        LineCause::Number,
+    ),
+    (
+        "irqboard 1\ncpus 1\ndev0 attach port c050 2 4 equal 0001\nend\n",
+        3,
+        LineCause::Count,
+    ),
 ];
 
 #[test]
 fn the_first_bad_line_is_named(rt: HostRuntime) -> Result<(), Fail> {
-    for (script, line) in BAD_SCRIPTS {
+    for (script, line, cause) in BAD_SCRIPTS {
         let (outcome, sink) = replayed(rt.alloc(), script.as_bytes().to_vec(rt.alloc())?)?;
-        let cause = LineCause::Unbuilt;
         assert_eq!(rt; outcome, Outcome::BadInput { line, cause }, "{script}");
         assert!(rt; sink.bytes().is_empty(), "{script}");
     }

@@ -20,7 +20,7 @@ const RUNS: [(&str, &str, u8, &str); 7] = [
         "irqboard replay",
         "irqboard 1\ncpus 1\nend",
         2,
-        "line 3: unbuilt",
+        "line 3: cut",
     ),
 ];
 

@@ -2,7 +2,7 @@
 use Rattle.std.specs.Prelude.{◌≡◌, ℕ, nat_le, Ok, Err, if◌then◌else◌}
 use Rattle.std.specs.declared.result.Result.{Result}
 use Rattle.irq_base.specs.declared.fault.LineCause.{LineCause}
-use Rattle.irq_base.specs.declared.fault.LineCause.TheVariants.{Cut, Char, End, Word, Count, Number, Actor, Unbuilt}
+use Rattle.irq_base.specs.declared.fault.LineCause.TheVariants.{Cut, Char, End, Word, Count, Number, Actor}
 use Rattle.script_text.specs.declared.causes.LineFault.{LineFault}
 use Rattle.script_text.specs.declared.causes.LineFault.TheVariants.{Bad, NoMemory}
 
@@ -15,7 +15,6 @@ order_of Word = 3
 order_of Count = 4
 order_of Number = 5
 order_of Actor = 6
-order_of Unbuilt = 7
 
 -- the first of two causes
 abbrev pub first_of : LineCause → LineCause → LineCause

@@ -25,7 +25,6 @@ fn order_of(cause: LineCause) -> u8
         LineCause::Count => 4,
         LineCause::Number => 5,
         LineCause::Actor => 6,
-        LineCause::Unbuilt => 7,
     }
 }
 
