@@ -31,7 +31,7 @@ replay_done input s history spent ends text lawful reads replays ends_so written
       reads = reads;
       history = history;
       replays = replays;
-      laws = lawful s.shape history replays.fits.legal;
+      laws = lawful s.shape history (replays.fits.board, replays.fits.stand.legal);
       written = written ∙ ap (λ t. text_of (run_with history t)) ends_so;
     }
 
