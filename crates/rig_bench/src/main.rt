@@ -1,6 +1,6 @@
 //! Rounds of interrupts on the parts of a board that a rig holds, to be counted: the words are the name of a bench and the number of
 //! rounds. Instructions a round are the difference of two runs with different rounds (`valgrind --tool=callgrind`) over the
-//! difference of the rounds. It prints how many rounds gave their vector and ended it.
+//! difference of the rounds. It prints how many rounds ended with the acknowledge of their pin.
 #![tactic(auto)]
 
 mod opening;
