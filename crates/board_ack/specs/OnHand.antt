@@ -63,7 +63,9 @@ SeesConcerned (Err l) q = (ws : Wishes) → StopsAt l.part (run_on see_concerned
 
 -- the registrations in hand name counters in hand
 abbrev pub AreRegistered : Parts → Type 0
-AreRegistered q = (registry : RegistryPart) (counts : List ℕ) → q.registry ≡ Some registry → q.counters ≡ Some counts → RegistrationsFit (length counts) registry
+AreRegistered q =
+    (registry : RegistryPart) (counts : List ℕ) → q.registry ≡ Some registry → q.counters ≡ Some counts →
+    RegistrationsFit (length counts) registry
 
 -- ---- step 4
 

@@ -74,4 +74,5 @@ pub record AcknowledgeReaches (routing : Routing) (shape : Shape) (b : Board) (w
   pub each : (acked : List Pin) → reaches (acknowledge_each routing shape acked) b ws q ≡ of_acknowledge_each routing shape b acked q
 
 abbrev pub AcknowledgesReachTheSame : Type 0
-AcknowledgesReachTheSame = (routing : Routing) (shape : Shape) (b : Board) (ws : Wishes) (q : Part) → AcknowledgeReaches routing shape b ws q
+AcknowledgesReachTheSame =
+    (routing : Routing) (shape : Shape) (b : Board) (ws : Wishes) (q : Part) → AcknowledgeReaches routing shape b ws q

@@ -31,7 +31,9 @@ pub fn concern(
     requires ioapic { IsTrue (is_below targets.now.ioapic 24) }
     requires pins { PinsFit (chips_of parts.old) }
     requires registered { AreRegistered (parts_of parts.old) }
-    ensures does { (ws : Wishes) → Adds result events.old.items events.new.items (parts_of parts.new) ws (run_on (concern targets.now gsi) (parts_of parts.old) ws) }
+    ensures does { (ws : Wishes) →
+        Adds result events.old.items events.new.items (parts_of parts.new) ws
+        (run_on (concern targets.now gsi) (parts_of parts.old) ws) }
     ensures missing { IfErr result (λ l. is_some (part_in (parts_of parts.old) l.part) ≡ false) }
     ensures kept { OnlyAcked parts.old parts.new }
     ensures pins { PinsFit (chips_of parts.new) }
@@ -81,7 +83,9 @@ fn resample(
     requires ioapic { IsTrue (is_below targets.now.ioapic 24) }
     requires pins { PinsFit (chips_of parts.old) }
     requires registered { AreRegistered (parts_of parts.old) }
-    ensures does { (ws : Wishes) (registry : RegistryPart) → (parts_of parts.old).registry ≡ Some registry → Adds result events.old.items events.new.items (parts_of parts.new) ws (run_on (resample targets.now gsi registry) (parts_of parts.old) ws) }
+    ensures does { (ws : Wishes) (registry : RegistryPart) → (parts_of parts.old).registry ≡ Some registry →
+        Adds result events.old.items events.new.items (parts_of parts.new) ws
+        (run_on (resample targets.now gsi registry) (parts_of parts.old) ws) }
     ensures kept { OnlyAcked parts.old parts.new }
     ensures pins { PinsFit (chips_of parts.new) }
 {
@@ -107,7 +111,9 @@ fn has_resampler(parts: &Parts, gsi: u16) -> bool
 // Each resample counter of the GSI gains one, in order of registration.
 fn signal_resamplers(parts: &mut Parts, gsi: u16, events: &mut Events) -> Result<(), Lacks>
     requires registered { AreRegistered (parts_of parts.old) }
-    ensures does { (ws : Wishes) (registry : RegistryPart) → (parts_of parts.old).registry ≡ Some registry → Adds result events.old.items events.new.items (parts_of parts.new) ws (run_on (signal_each (resampled registry.irqfds gsi) (resample_events registry.irqfds gsi)) (parts_of parts.old) ws) }
+    ensures does { (ws : Wishes) (registry : RegistryPart) → (parts_of parts.old).registry ≡ Some registry →
+        Adds result events.old.items events.new.items (parts_of parts.new) ws
+        (run_on (signal_each (resampled registry.irqfds gsi) (resample_events registry.irqfds gsi)) (parts_of parts.old) ws) }
     ensures kept { OnlyAcked parts.old parts.new }
     ensures pins { chips_of parts.new ≡ chips_of parts.old }
 {
@@ -128,7 +134,8 @@ fn signal_resamplers(parts: &mut Parts, gsi: u16, events: &mut Events) -> Result
 // Step 3: the counter of each acknowledge notifier of the GSI gains one, in order of registration.
 fn notify(parts: &mut Parts, gsi: u16, events: &mut Events) -> Result<(), Lacks>
     requires registered { AreRegistered (parts_of parts.old) }
-    ensures does { (ws : Wishes) (registry : RegistryPart) → (parts_of parts.old).registry ≡ Some registry → Adds result events.old.items events.new.items (parts_of parts.new) ws (run_on (notify gsi registry) (parts_of parts.old) ws) }
+    ensures does { (ws : Wishes) (registry : RegistryPart) → (parts_of parts.old).registry ≡ Some registry →
+        Adds result events.old.items events.new.items (parts_of parts.new) ws (run_on (notify gsi registry) (parts_of parts.old) ws) }
     ensures kept { OnlyAcked parts.old parts.new }
     ensures pins { chips_of parts.new ≡ chips_of parts.old }
 {

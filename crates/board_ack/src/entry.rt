@@ -22,7 +22,8 @@ pub fn end_level<R: Rig>(rig: &mut R, cpus: u16, pin: Pin, events: &mut Events) 
     requires places { length (R.held rig.old).lapics ≡ cpus }
     requires pins { PinsFit (chips_of (R.held rig.old)) }
     requires pin { IsPin pin }
-    ensures does { Adds result events.old.items events.new.items (parts_of (R.held rig.new)) (R.wishes rig.new) (run_on (end_level cpus pin) (parts_of (R.held rig.old)) (R.wishes rig.old)) }
+    ensures does { Adds result events.old.items events.new.items (parts_of (R.held rig.new)) (R.wishes rig.new)
+        (run_on (end_level cpus pin) (parts_of (R.held rig.old)) (R.wishes rig.old)) }
     ensures missing { IfErr result (λ l. is_some (part_in (parts_of (R.held rig.old)) l.part) ≡ false) }
     ensures kept { OnlyAcked (R.held rig.old) (R.held rig.new) }
     ensures pins { PinsFit (chips_of (R.held rig.new)) }
@@ -43,7 +44,8 @@ fn end_ioapic<R: Rig>(rig: &mut R, cpus: u16, pin: u8, events: &mut Events) -> R
     requires places { length (R.held rig.old).lapics ≡ cpus }
     requires pins { PinsFit (chips_of (R.held rig.old)) }
     requires pin { pin < 24 }
-    ensures does { Adds result events.old.items events.new.items (parts_of (R.held rig.new)) (R.wishes rig.new) (run_on (end_level cpus (IoapicPin pin)) (parts_of (R.held rig.old)) (R.wishes rig.old)) }
+    ensures does { Adds result events.old.items events.new.items (parts_of (R.held rig.new)) (R.wishes rig.new)
+        (run_on (end_level cpus (IoapicPin pin)) (parts_of (R.held rig.old)) (R.wishes rig.old)) }
     ensures missing { IfErr result (λ l. is_some (part_in (parts_of (R.held rig.old)) l.part) ≡ false) }
     ensures kept { OnlyAcked (R.held rig.old) (R.held rig.new) }
     ensures pins { PinsFit (chips_of (R.held rig.new)) }
@@ -76,7 +78,8 @@ pub fn resend<R: Rig>(
     requires places { length (R.held rig.old).lapics ≡ cpus }
     requires pins { PinsFit (chips_of (R.held rig.old)) }
     requires pin { pin < 24 }
-    ensures does { Adds result events.old.items events.new.items (parts_of (R.held rig.new)) (R.wishes rig.new) (run_on (resend cpus pin (Some message.now)) (parts_of (R.held rig.old)) (R.wishes rig.old)) }
+    ensures does { Adds result events.old.items events.new.items (parts_of (R.held rig.new)) (R.wishes rig.new)
+        (run_on (resend cpus pin (Some message.now)) (parts_of (R.held rig.old)) (R.wishes rig.old)) }
     ensures kept { OnlyAcked (R.held rig.old) (R.held rig.new) }
     ensures pins { PinsFit (chips_of (R.held rig.new)) }
     ensures published { R.published rig.new ≡ R.published rig.old }
@@ -96,7 +99,8 @@ pub fn resend<R: Rig>(
 fn end_entry(parts: &mut Parts, pin: u8) -> Result<Option<Message>, Lacks>
     requires pin { pin < 24 }
     requires fits { PinsFit (chips_of parts.old) }
-    ensures does { (ws : Wishes) → DoesQuietly (λ message. message) result (parts_of parts.new) ws (run_on (end_entry pin) (parts_of parts.old) ws) }
+    ensures does { (ws : Wishes) →
+        DoesQuietly (λ message. message) result (parts_of parts.new) ws (run_on (end_entry pin) (parts_of parts.old) ws) }
     ensures kept { OnlyPinsChange parts.old parts.new }
     ensures fits { PinsFit (chips_of parts.new) }
 {

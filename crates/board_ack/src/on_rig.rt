@@ -34,10 +34,20 @@ pub fn ack_pin<R: Rig>(
 ) -> Result<(), Lacks>
     requires fits { Fits shape.now (parts_of (R.held rig.old)) (chips_of (R.held rig.old)) }
     requires pin { IsPin pin }
-    ensures does { R.astray rig.new ≡ false → Adds result events.old.items events.new.items (parts_of (R.held rig.new)) (R.wishes rig.new) (run_on (acknowledge (routing_of_words (R.published rig.old)) shape.now pin) (parts_of (R.held rig.old)) (R.wishes rig.old)) }
-    ensures all { R.astray rig.new ≡ false → AddsAll result events.old.items events.new.items (run_on (acknowledge (routing_of_words (R.published rig.old)) shape.now pin) (parts_of (R.held rig.old)) (R.wishes rig.old)) }
-    ensures lacks { R.astray rig.new ≡ false → IfErr result (λ l. IsNeeded l.part (parts_of (R.held rig.old)) (λ b. of_acknowledge (routing_of_words (R.published rig.old)) shape.now b pin)) }
-    ensures reached { R.astray rig.new ≡ false → IfOk result (λ _. HoldsNeeded (parts_of (R.held rig.old)) (λ b. of_acknowledge (routing_of_words (R.published rig.old)) shape.now b pin)) }
+    ensures does { R.astray rig.new ≡ false →
+        Adds result events.old.items events.new.items (parts_of (R.held rig.new)) (R.wishes rig.new)
+        (run_on (acknowledge (routing_of_words (R.published rig.old)) shape.now pin) (parts_of (R.held rig.old)) (R.wishes rig.old)) }
+    ensures all { R.astray rig.new ≡ false →
+        AddsAll result events.old.items events.new.items
+        (run_on (acknowledge (routing_of_words (R.published rig.old)) shape.now pin) (parts_of (R.held rig.old)) (R.wishes rig.old)) }
+    ensures lacks { R.astray rig.new ≡ false →
+        IfErr result
+        (λ l. IsNeeded l.part (parts_of (R.held rig.old))
+        (λ b. of_acknowledge (routing_of_words (R.published rig.old)) shape.now b pin)) }
+    ensures reached { R.astray rig.new ≡ false →
+        IfOk result
+        (λ _. HoldsNeeded (parts_of (R.held rig.old))
+        (λ b. of_acknowledge (routing_of_words (R.published rig.old)) shape.now b pin)) }
     ensures missing { IfErr result (λ l. is_some (part_in (parts_of (R.held rig.old)) l.part) ≡ false) }
     ensures kept { OnlyAcked (R.held rig.old) (R.held rig.new) }
     ensures fits { Fits shape.now (parts_of (R.held rig.new)) (chips_of (R.held rig.new)) }
@@ -63,7 +73,9 @@ fn tell_concerned<R: Rig>(rig: &mut R, gsi: Option<u16>, events: &mut Events) ->
     requires pins { PinsFit (chips_of (R.held rig.old)) }
     requires registered { AreRegistered (parts_of (R.held rig.old)) }
     requires gsi { IfSome gsi (λ g. g < 4096) }
-    ensures does { R.astray rig.new ≡ false → Adds result events.old.items events.new.items (parts_of (R.held rig.new)) (R.wishes rig.new) (run_on (tell_concerned (routing_of_words (R.published rig.old)) gsi) (parts_of (R.held rig.old)) (R.wishes rig.old)) }
+    ensures does { R.astray rig.new ≡ false →
+        Adds result events.old.items events.new.items (parts_of (R.held rig.new)) (R.wishes rig.new)
+        (run_on (tell_concerned (routing_of_words (R.published rig.old)) gsi) (parts_of (R.held rig.old)) (R.wishes rig.old)) }
     ensures missing { IfErr result (λ l. is_some (part_in (parts_of (R.held rig.old)) l.part) ≡ false) }
     ensures kept { OnlyAcked (R.held rig.old) (R.held rig.new) }
     ensures pins { PinsFit (chips_of (R.held rig.new)) }

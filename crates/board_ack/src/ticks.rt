@@ -24,7 +24,10 @@ pub fn inject_tick<R: Rig>(rig: &mut R, shape: &Shape) -> Result<Status, Lacks>
     requires tick { shape.now.tick < 4096 }
     requires places { length (R.held rig.old).lapics ≡ shape.now.cpus }
     requires pins { PinsFit (chips_of (R.held rig.old)) }
-    ensures does { R.astray rig.new ≡ false → (place : Place) → ShowsTick place result (parts_of (R.held rig.new)) (R.wishes rig.new) (run_on (inject_tick (routing_of_words (R.published rig.old)) shape.now (about_at place)) (parts_of (R.held rig.old)) (R.wishes rig.old)) }
+    ensures does { R.astray rig.new ≡ false → (place : Place) →
+        ShowsTick place result (parts_of (R.held rig.new)) (R.wishes rig.new)
+        (run_on (inject_tick (routing_of_words (R.published rig.old)) shape.now (about_at place)) (parts_of (R.held rig.old))
+        (R.wishes rig.old)) }
     ensures missing { IfErr result (λ l. is_some (part_in (parts_of (R.held rig.old)) l.part) ≡ false) }
     ensures kept { OnlyAcked (R.held rig.old) (R.held rig.new) }
     ensures pins { PinsFit (chips_of (R.held rig.new)) }
@@ -56,7 +59,9 @@ pub fn end_tick<R: Rig>(
     requires tick { shape.now.tick < 4096 }
     requires places { length (R.held rig.old).lapics ≡ shape.now.cpus }
     requires pins { PinsFit (chips_of (R.held rig.old)) }
-    ensures does { R.astray rig.new ≡ false → Adds result events.old.items events.new.items (parts_of (R.held rig.new)) (R.wishes rig.new) (run_on (end_tick (routing_of_words (R.published rig.old)) shape.now gsi) (parts_of (R.held rig.old)) (R.wishes rig.old)) }
+    ensures does { R.astray rig.new ≡ false →
+        Adds result events.old.items events.new.items (parts_of (R.held rig.new)) (R.wishes rig.new)
+        (run_on (end_tick (routing_of_words (R.published rig.old)) shape.now gsi) (parts_of (R.held rig.old)) (R.wishes rig.old)) }
     ensures missing { IfErr result (λ l. is_some (part_in (parts_of (R.held rig.old)) l.part) ≡ false) }
     ensures kept { OnlyAcked (R.held rig.old) (R.held rig.new) }
     ensures pins { PinsFit (chips_of (R.held rig.new)) }
@@ -95,7 +100,8 @@ pub fn end_tick<R: Rig>(
 
 // A tick less is pending; tells whether the next is to be injected.
 fn free_tick(parts: &mut Parts) -> Result<bool, Lacks>
-    ensures does { (ws : Wishes) → DoesQuietly (λ injects. injects) result (parts_of parts.new) ws (run_on free_tick (parts_of parts.old) ws) }
+    ensures does { (ws : Wishes) →
+        DoesQuietly (λ injects. injects) result (parts_of parts.new) ws (run_on free_tick (parts_of parts.old) ws) }
     ensures missing { IfErr result (λ l. is_some (part_in (parts_of parts.old) l.part) ≡ false) }
     ensures kept { OnlyAcked parts.old parts.new }
     ensures pins { chips_of parts.new ≡ chips_of parts.old }
@@ -108,7 +114,9 @@ fn free_tick(parts: &mut Parts) -> Result<bool, Lacks>
 
 // A tick was injected with this status.
 fn tick_injected(parts: &mut Parts, status: &Status) -> Result<(), Lacks>
-    ensures does { (ws : Wishes) → Leaves result (parts_of parts.new) ws (run_on (change TickPart (λ tick. tick_injected tick status.now)) (parts_of parts.old) ws) }
+    ensures does { (ws : Wishes) →
+        Leaves result (parts_of parts.new) ws
+        (run_on (change TickPart (λ tick. tick_injected tick status.now)) (parts_of parts.old) ws) }
     ensures missing { IfErr result (λ l. is_some (part_in (parts_of parts.old) l.part) ≡ false) }
     ensures kept { OnlyAcked parts.old parts.new }
     ensures pins { chips_of parts.new ≡ chips_of parts.old }

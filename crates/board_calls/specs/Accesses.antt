@@ -140,7 +140,8 @@ ring routing shape space address len value = do
 
 -- a processor writes to a port
 abbrev pub port_out : Routing → Shape → ℕ → ℕ → ℕ → Plan (Unit {0})
-port_out routing shape port len value = if is_port port then pair_write routing shape port len value else ring routing shape spaces.Port port len value
+port_out routing shape port len value =
+    if is_port port then pair_write routing shape port len value else ring routing shape spaces.Port port len value
 
 -- a processor reads a port; one of no chip is the monitor's
 abbrev pub port_in : Routing → Shape → ℕ → ℕ → Plan (Unit {0})

@@ -101,7 +101,9 @@ hears_pair n apic = nat_eq n 0 && lets_through apic
 abbrev pub give_of_pair : Routing → Shape → ℕ → LocalApic → Plan (Unit {0})
 give_of_pair routing shape n apic = do
   pic ← see Pic
-  (if has_output (pair_of pic) then cycle_made routing shape pic (cycle (pair_of pic)) (Extint (cycle (pair_of pic)).vector) else give n apic)
+  (if has_output (pair_of pic)
+      then cycle_made routing shape pic (cycle (pair_of pic)) (Extint (cycle (pair_of pic)).vector)
+      else give n apic)
 
 -- a pending NMI is taken
 abbrev pub take_nmi : ℕ → LocalApic → Plan (Unit {0})

@@ -78,7 +78,8 @@ lies_within space address len = nat_lt address (end_of space) && nat_le (address
 -- an ioeventfd with a length that is neither 0 nor one of accesses, with a match that stands beside length 0 or does not fit,
 -- or whose addresses pass the end of its space (KVM_IOEVENTFD)
 abbrev pub bad_ioevent : Space → ℕ → ℕ → Option ℕ → Reason
-bad_ioevent space address len want = (not ((nat_eq len 0 || is_length space len) && (match_fits want len && lies_within space address len)), BadRange)
+bad_ioevent space address len want =
+    (not ((nat_eq len 0 || is_length space len) && (match_fits want len && lies_within space address len)), BadRange)
 
 -- the reasons of a call's arguments alone, in order
 abbrev pub range_reasons : Shape → Call → List Reason
@@ -131,11 +132,15 @@ write_reasons counts counter n = (nat_lt (2 ^ 64 - 2) (slice_index counts counte
 -- the trigger of a living irqfd; or a counter in two roles: a trigger that is signalled, or a resample counter that is a
 -- trigger
 abbrev pub assign_reasons : RegistryPart → ℕ → Option ℕ → List Reason
-assign_reasons registry trigger resample = (is_trigger registry trigger, Busy) ∷ (is_signalled registry trigger || resample_clashes registry trigger resample, RoleClash) ∷ []
+assign_reasons registry trigger resample =
+    (is_trigger registry trigger, Busy) ∷
+    (is_signalled registry trigger || resample_clashes registry trigger resample, RoleClash) ∷ []
 
 -- an ioeventfd that collides with one, or where 256 are there
 abbrev pub attach_reasons : RegistryPart → IoRow → List Reason
-attach_reasons registry row = (list_any (λ other. ioevents.do_collide other row) registry.ioevents, Exists) ∷ (nat_le 256 (length registry.ioevents), Full) ∷ []
+attach_reasons registry row =
+    (list_any (λ other. ioevents.do_collide other row) registry.ioevents, Exists) ∷
+    (nat_le 256 (length registry.ioevents), Full) ∷ []
 
 -- an ioeventfd that is not there
 abbrev pub detach_reasons : RegistryPart → IoRow → List Reason
@@ -144,7 +149,9 @@ detach_reasons registry row = (not (list_any (ioevents.is_same row) registry.ioe
 -- a notifier of a trigger, one that is there, or where 256 are there
 abbrev pub watch_reasons : RegistryPart → ℕ → ℕ → List Reason
 watch_reasons registry counter gsi =
-    (is_trigger registry counter, RoleClash) ∷ (watches.has_row registry.watches counter gsi, Exists) ∷ (nat_le 256 (length registry.watches), Full) ∷ []
+    (is_trigger registry counter, RoleClash) ∷
+    (watches.has_row registry.watches counter gsi, Exists) ∷
+    (nat_le 256 (length registry.watches), Full) ∷ []
 
 -- a notifier that is not there
 abbrev pub unwatch_reasons : RegistryPart → ℕ → ℕ → List Reason

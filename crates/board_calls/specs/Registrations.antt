@@ -173,22 +173,26 @@ reroute rows = do
 abbrev pub attach : IoRow → Plan (Unit {0})
 attach row = do
   registry ← see Registry
-  unless_one_of (attach_reasons registry row) (put_part Registry (record registry { ioevents = registry.ioevents ++ row ∷ [] }) >> reply Done)
+  unless_one_of (attach_reasons registry row)
+      (put_part Registry (record registry { ioevents = registry.ioevents ++ row ∷ [] }) >> reply Done)
 
 -- an ioeventfd ends (KVM_IOEVENTFD, deassign)
 abbrev pub detach : IoRow → Plan (Unit {0})
 detach row = do
   registry ← see Registry
-  unless_one_of (detach_reasons registry row) (put_part Registry (record registry { ioevents = ioevents.without_row registry.ioevents row }) >> reply Done)
+  unless_one_of (detach_reasons registry row)
+      (put_part Registry (record registry { ioevents = ioevents.without_row registry.ioevents row }) >> reply Done)
 
 -- an acknowledge notifier is made
 abbrev pub watch : ℕ → ℕ → Plan (Unit {0})
 watch counter gsi = do
   registry ← see Registry
-  unless_one_of (watch_reasons registry counter gsi) (put_part Registry (record registry { watches = watches.with_row registry.watches counter gsi }) >> reply Done)
+  unless_one_of (watch_reasons registry counter gsi)
+      (put_part Registry (record registry { watches = watches.with_row registry.watches counter gsi }) >> reply Done)
 
 -- an acknowledge notifier ends
 abbrev pub unwatch : ℕ → ℕ → Plan (Unit {0})
 unwatch counter gsi = do
   registry ← see Registry
-  unless_one_of (unwatch_reasons registry counter gsi) (put_part Registry (record registry { watches = watches.without_row registry.watches counter gsi }) >> reply Done)
+  unless_one_of (unwatch_reasons registry counter gsi)
+      (put_part Registry (record registry { watches = watches.without_row registry.watches counter gsi }) >> reply Done)

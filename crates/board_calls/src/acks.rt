@@ -29,7 +29,10 @@ pub fn ack_pic<R: Rig>(
 ) -> Result<(), Lacks>
     requires pin { IfSome pin (λ p. p < 16) }
     requires fits { FitsShape shape.now (R.held rig.old) }
-    ensures does { R.astray rig.new ≡ false → Adds result events.old.items events.new.items (parts_of (R.held rig.new)) (R.wishes rig.new) (run_on (acknowledge_each (routing_of_words (R.published rig.old)) shape.now (pic_pin pin)) (parts_of (R.held rig.old)) (R.wishes rig.old)) }
+    ensures does { R.astray rig.new ≡ false →
+        Adds result events.old.items events.new.items (parts_of (R.held rig.new)) (R.wishes rig.new)
+        (run_on (acknowledge_each (routing_of_words (R.published rig.old)) shape.now (pic_pin pin)) (parts_of (R.held rig.old))
+        (R.wishes rig.old)) }
     ensures missing { IsMissing result (R.held rig.old) }
     ensures held { SameInHand (R.held rig.old) (R.held rig.new) }
     ensures fits { FitsShape shape.now (R.held rig.new) }
@@ -52,7 +55,10 @@ fn ack_pins<R: Rig>(
 ) -> Result<(), Lacks>
     requires pins { InRange pins }
     requires fits { FitsShape shape.now (R.held rig.old) }
-    ensures does { R.astray rig.new ≡ false → Adds result events.old.items events.new.items (parts_of (R.held rig.new)) (R.wishes rig.new) (run_on (acknowledge_each (routing_of_words (R.published rig.old)) shape.now (cycle_pins pins)) (parts_of (R.held rig.old)) (R.wishes rig.old)) }
+    ensures does { R.astray rig.new ≡ false →
+        Adds result events.old.items events.new.items (parts_of (R.held rig.new)) (R.wishes rig.new)
+        (run_on (acknowledge_each (routing_of_words (R.published rig.old)) shape.now (cycle_pins pins))
+        (parts_of (R.held rig.old)) (R.wishes rig.old)) }
     ensures missing { IsMissing result (R.held rig.old) }
     ensures held { SameInHand (R.held rig.old) (R.held rig.new) }
     ensures fits { FitsShape shape.now (R.held rig.new) }
@@ -72,7 +78,11 @@ fn ack_pins<R: Rig>(
 /// It does what the plan of a cycle does that answers the vector, whatever the reply is in which it does.
 pub fn make_cycle<R: Rig>(rig: &mut R, shape: &Shape, events: &mut Events) -> Result<u8, Lacks>
     requires fits { FitsShape shape.now (R.held rig.old) }
-    ensures does { (answer : ℕ → Reply) → R.astray rig.new ≡ false → TellsOn (λ vector. answer vector ∷ []) result events.old.items events.new.items (parts_of (R.held rig.new)) (R.wishes rig.new) (run_on (cycle_answered (routing_of_words (R.published rig.old)) shape.now answer) (parts_of (R.held rig.old)) (R.wishes rig.old)) }
+    ensures does { (answer : ℕ → Reply) → R.astray rig.new ≡ false →
+        TellsOn (λ vector. answer vector ∷ []) result events.old.items events.new.items (parts_of (R.held rig.new))
+        (R.wishes rig.new)
+        (run_on (cycle_answered (routing_of_words (R.published rig.old)) shape.now answer) (parts_of (R.held rig.old))
+        (R.wishes rig.old)) }
     ensures missing { IsMissing result (R.held rig.old) }
     ensures held { SameInHand (R.held rig.old) (R.held rig.new) }
     ensures fits { FitsShape shape.now (R.held rig.new) }

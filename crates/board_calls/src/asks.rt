@@ -28,7 +28,10 @@ pub fn next_interrupt<R: Rig>(
 ) -> Result<Reply, Lacks>
     requires cpu { n < shape.now.cpus }
     requires fits { FitsShape shape.now (R.held rig.old) }
-    ensures does { R.astray rig.new ≡ false → TellsOn (λ reply. reply ∷ []) result events.old.items events.new.items (parts_of (R.held rig.new)) (R.wishes rig.new) (run_on (next_interrupt (routing_of_words (R.published rig.old)) shape.now n) (parts_of (R.held rig.old)) (R.wishes rig.old)) }
+    ensures does { R.astray rig.new ≡ false →
+        TellsOn (λ reply. reply ∷ []) result events.old.items events.new.items (parts_of (R.held rig.new)) (R.wishes rig.new)
+        (run_on (next_interrupt (routing_of_words (R.published rig.old)) shape.now n) (parts_of (R.held rig.old))
+        (R.wishes rig.old)) }
     ensures missing { IsMissing result (R.held rig.old) }
     ensures held { SameInHand (R.held rig.old) (R.held rig.new) }
     ensures fits { FitsShape shape.now (R.held rig.new) }
@@ -50,7 +53,8 @@ pub fn next_interrupt<R: Rig>(
 fn answer_own(parts: &mut Parts, n: u16) -> Result<Option<Reply>, Lacks>
     requires place { n < length parts.old.lapics }
     requires pins { PinsFit (chips_of parts.old) }
-    ensures does { (ws : Wishes) → DoesQuietly (λ answer. answer) result (parts_of parts.new) ws (run_on (answering n) (parts_of parts.old) ws) }
+    ensures does { (ws : Wishes) →
+        DoesQuietly (λ answer. answer) result (parts_of parts.new) ws (run_on (answering n) (parts_of parts.old) ws) }
     ensures missing { IsMissing result parts.old }
     ensures held { SameInHand parts.old parts.new }
     ensures fits { (shape : Sizes) → FitsShape shape parts.old → FitsShape shape parts.new }

@@ -29,7 +29,10 @@ pub fn end_of_interrupt<R: Rig>(
 ) -> Result<Reply, Lacks>
     requires cpu { n < shape.now.cpus }
     requires fits { FitsShape shape.now (R.held rig.old) }
-    ensures does { R.astray rig.new ≡ false → TellsOn (λ reply. reply ∷ []) result events.old.items events.new.items (parts_of (R.held rig.new)) (R.wishes rig.new) (run_on (end_of_interrupt (routing_of_words (R.published rig.old)) shape.now n) (parts_of (R.held rig.old)) (R.wishes rig.old)) }
+    ensures does { R.astray rig.new ≡ false →
+        TellsOn (λ reply. reply ∷ []) result events.old.items events.new.items (parts_of (R.held rig.new)) (R.wishes rig.new)
+        (run_on (end_of_interrupt (routing_of_words (R.published rig.old)) shape.now n) (parts_of (R.held rig.old))
+        (R.wishes rig.old)) }
     ensures missing { IsMissing result (R.held rig.old) }
     ensures held { SameInHand (R.held rig.old) (R.held rig.new) }
     ensures fits { FitsShape shape.now (R.held rig.new) }
@@ -50,7 +53,9 @@ pub fn end_of_interrupt<R: Rig>(
 // The greatest vector in service of processor n goes out of it.
 fn end_service(parts: &mut Parts, n: u16) -> Result<Option<u8>, Lacks>
     requires { n < length parts.old.lapics }
-    ensures does { (ws : Wishes) → DoesQuietly (λ vector. vector) result (parts_of parts.new) ws (run_on (changing n ended (λ apic. greatest_vector apic.isr)) (parts_of parts.old) ws) }
+    ensures does { (ws : Wishes) →
+        DoesQuietly (λ vector. vector) result (parts_of parts.new) ws
+        (run_on (changing n ended (λ apic. greatest_vector apic.isr)) (parts_of parts.old) ws) }
     ensures missing { IsMissing result parts.old }
     ensures held { SameInHand parts.old parts.new }
     ensures fits { (shape : Sizes) → FitsShape shape parts.old → FitsShape shape parts.new }
@@ -82,7 +87,10 @@ pub fn end_vector<R: Rig>(
     events: &mut Events,
 ) -> Result<(), Lacks>
     requires { FitsShape shape.now (R.held rig.old) }
-    ensures does { R.astray rig.new ≡ false → TellsOn (λ _. []) result events.old.items events.new.items (parts_of (R.held rig.new)) (R.wishes rig.new) (run_on (end_vector (routing_of_words (R.published rig.old)) shape.now vector) (parts_of (R.held rig.old)) (R.wishes rig.old)) }
+    ensures does { R.astray rig.new ≡ false →
+        TellsOn (λ _. []) result events.old.items events.new.items (parts_of (R.held rig.new)) (R.wishes rig.new)
+        (run_on (end_vector (routing_of_words (R.published rig.old)) shape.now vector) (parts_of (R.held rig.old))
+        (R.wishes rig.old)) }
     ensures missing { IsMissing result (R.held rig.old) }
     ensures held { SameInHand (R.held rig.old) (R.held rig.new) }
     ensures fits { FitsShape shape.now (R.held rig.new) }
@@ -101,7 +109,8 @@ pub fn end_vector<R: Rig>(
 
 // The pins of the I/O APIC in hand whose entry has the vector.
 fn pins_in_hand(parts: &Parts, vector: u8) -> Result<Pins, Lacks>
-    ensures does { (ws : Wishes) → DoesQuietly (λ marks. pins_marked marks) result (parts_of parts.now) ws (run_on (pins_seen vector) (parts_of parts.now) ws) }
+    ensures does { (ws : Wishes) →
+        DoesQuietly (λ marks. pins_marked marks) result (parts_of parts.now) ws (run_on (pins_seen vector) (parts_of parts.now) ws) }
     ensures missing { IsMissing result parts.now }
 {
     match &parts.ioapic {
@@ -118,7 +127,10 @@ fn acknowledge_marked<R: Rig>(
     events: &mut Events,
 ) -> Result<(), Lacks>
     requires { FitsShape shape.now (R.held rig.old) }
-    ensures does { R.astray rig.new ≡ false → Adds result events.old.items events.new.items (parts_of (R.held rig.new)) (R.wishes rig.new) (run_on (acknowledge_each (routing_of_words (R.published rig.old)) shape.now (pins_marked marks)) (parts_of (R.held rig.old)) (R.wishes rig.old)) }
+    ensures does { R.astray rig.new ≡ false →
+        Adds result events.old.items events.new.items (parts_of (R.held rig.new)) (R.wishes rig.new)
+        (run_on (acknowledge_each (routing_of_words (R.published rig.old)) shape.now (pins_marked marks))
+        (parts_of (R.held rig.old)) (R.wishes rig.old)) }
     ensures missing { IsMissing result (R.held rig.old) }
     ensures held { SameInHand (R.held rig.old) (R.held rig.new) }
     ensures fits { FitsShape shape.now (R.held rig.new) }

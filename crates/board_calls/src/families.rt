@@ -31,7 +31,9 @@ pub fn device_call<R: Rig>(rig: &mut R, shape: &Shape, call: &Call) -> Result<Re
     requires kind { IsTrue (is_of_device call.now) }
     requires range { first_of (range_reasons shape.now call.now) ≡ None }
     requires fits { FitsShape shape.now (R.held rig.old) }
-    ensures does { (n : ℕ) → R.astray rig.new ≡ false → Replies (plan_in_range (routing_of_words (R.published rig.old)) shape.now n call.now) (R.held rig.old) (R.wishes rig.old) result (R.held rig.new) (R.wishes rig.new) }
+    ensures does { (n : ℕ) → R.astray rig.new ≡ false →
+        Replies (plan_in_range (routing_of_words (R.published rig.old)) shape.now n call.now) (R.held rig.old) (R.wishes rig.old)
+        result (R.held rig.new) (R.wishes rig.new) }
     ensures missing { IsMissing result (R.held rig.old) }
     ensures held { SameInHand (R.held rig.old) (R.held rig.new) }
     ensures fits { FitsShape shape.now (R.held rig.new) }
@@ -61,7 +63,9 @@ pub fn device_call<R: Rig>(rig: &mut R, shape: &Shape, call: &Call) -> Result<Re
 pub fn tick_call<R: Rig>(rig: &mut R, shape: &Shape, call: &Call) -> Result<Reply, Lacks>
     requires kind { IsTrue (is_of_ticks call.now) }
     requires fits { FitsShape shape.now (R.held rig.old) }
-    ensures does { (n : ℕ) → R.astray rig.new ≡ false → Replies (plan_in_range (routing_of_words (R.published rig.old)) shape.now n call.now) (R.held rig.old) (R.wishes rig.old) result (R.held rig.new) (R.wishes rig.new) }
+    ensures does { (n : ℕ) → R.astray rig.new ≡ false →
+        Replies (plan_in_range (routing_of_words (R.published rig.old)) shape.now n call.now) (R.held rig.old) (R.wishes rig.old)
+        result (R.held rig.new) (R.wishes rig.new) }
     ensures missing { IsMissing result (R.held rig.old) }
     ensures held { SameInHand (R.held rig.old) (R.held rig.new) }
     ensures fits { FitsButTick shape.now (R.held rig.new) }
@@ -91,7 +95,10 @@ pub fn registration<R: Rig>(
     requires kind { IsTrue (is_registration call.now) }
     requires range { first_of (range_reasons shape.now call.now) ≡ None }
     requires fits { FitsShape shape.now (R.held rig.old) }
-    ensures does { (n : ℕ) → R.astray rig.new ≡ false → TellsOn (λ reply. reply ∷ []) result events.old.items events.new.items (parts_of (R.held rig.new)) (R.wishes rig.new) (run_on (plan_in_range (routing_of_words (R.published rig.old)) shape.now n call.now) (parts_of (R.held rig.old)) (R.wishes rig.old)) }
+    ensures does { (n : ℕ) → R.astray rig.new ≡ false →
+        TellsOn (λ reply. reply ∷ []) result events.old.items events.new.items (parts_of (R.held rig.new)) (R.wishes rig.new)
+        (run_on (plan_in_range (routing_of_words (R.published rig.old)) shape.now n call.now) (parts_of (R.held rig.old))
+        (R.wishes rig.old)) }
     ensures missing { IsMissing result (R.held rig.old) }
     ensures held { SameInHand (R.held rig.old) (R.held rig.new) }
     ensures fits { FitsShape shape.now (R.held rig.new) }
@@ -114,7 +121,9 @@ fn quiet_registration<R: Rig>(rig: &mut R, shape: &Shape, call: &Call) -> Result
     requires kind { IsTrue (is_quiet_registration call.now) }
     requires range { first_of (range_reasons shape.now call.now) ≡ None }
     requires fits { FitsShape shape.now (R.held rig.old) }
-    ensures does { (n : ℕ) → R.astray rig.new ≡ false → Replies (plan_in_range (routing_of_words (R.published rig.old)) shape.now n call.now) (R.held rig.old) (R.wishes rig.old) result (R.held rig.new) (R.wishes rig.new) }
+    ensures does { (n : ℕ) → R.astray rig.new ≡ false →
+        Replies (plan_in_range (routing_of_words (R.published rig.old)) shape.now n call.now) (R.held rig.old) (R.wishes rig.old)
+        result (R.held rig.new) (R.wishes rig.new) }
     ensures missing { IsMissing result (R.held rig.old) }
     ensures held { SameInHand (R.held rig.old) (R.held rig.new) }
     ensures fits { FitsShape shape.now (R.held rig.new) }

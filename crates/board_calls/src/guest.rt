@@ -42,7 +42,10 @@ pub fn guest_access<R: Rig>(
     requires range { first_of (range_reasons shape.now call.now) ≡ None }
     requires processor { n < shape.now.cpus }
     requires fits { FitsShape shape.now (R.held rig.old) }
-    ensures does { R.astray rig.new ≡ false → TellsOn (λ reply. reply ∷ []) result events.old.items events.new.items (parts_of (R.held rig.new)) (R.wishes rig.new) (run_on (plan_in_range (routing_of_words (R.published rig.old)) shape.now n call.now) (parts_of (R.held rig.old)) (R.wishes rig.old)) }
+    ensures does { R.astray rig.new ≡ false →
+        TellsOn (λ reply. reply ∷ []) result events.old.items events.new.items (parts_of (R.held rig.new)) (R.wishes rig.new)
+        (run_on (plan_in_range (routing_of_words (R.published rig.old)) shape.now n call.now) (parts_of (R.held rig.old))
+        (R.wishes rig.old)) }
     ensures missing { IsMissing result (R.held rig.old) }
     ensures held { SameInHand (R.held rig.old) (R.held rig.new) }
     ensures fits { FitsShape shape.now (R.held rig.new) }
@@ -76,7 +79,10 @@ fn store<R: Rig>(
     requires processor { n < shape.now.cpus }
     requires value { IsTrue (does_fit value len) }
     requires fits { FitsShape shape.now (R.held rig.old) }
-    ensures does { R.astray rig.new ≡ false → TellsOn (λ reply. reply ∷ []) result events.old.items events.new.items (parts_of (R.held rig.new)) (R.wishes rig.new) (run_on (store (routing_of_words (R.published rig.old)) shape.now n address len value) (parts_of (R.held rig.old)) (R.wishes rig.old)) }
+    ensures does { R.astray rig.new ≡ false →
+        TellsOn (λ reply. reply ∷ []) result events.old.items events.new.items (parts_of (R.held rig.new)) (R.wishes rig.new)
+        (run_on (store (routing_of_words (R.published rig.old)) shape.now n address len value) (parts_of (R.held rig.old))
+        (R.wishes rig.old)) }
     ensures missing { IsMissing result (R.held rig.old) }
     ensures held { SameInHand (R.held rig.old) (R.held rig.new) }
     ensures fits { FitsShape shape.now (R.held rig.new) }
@@ -136,7 +142,10 @@ pub fn processor_call<R: Rig>(
     requires kind { IsTrue (is_of_interrupts call.now) }
     requires processor { n < shape.now.cpus }
     requires fits { FitsShape shape.now (R.held rig.old) }
-    ensures does { R.astray rig.new ≡ false → TellsOn (λ reply. reply ∷ []) result events.old.items events.new.items (parts_of (R.held rig.new)) (R.wishes rig.new) (run_on (plan_in_range (routing_of_words (R.published rig.old)) shape.now n call.now) (parts_of (R.held rig.old)) (R.wishes rig.old)) }
+    ensures does { R.astray rig.new ≡ false →
+        TellsOn (λ reply. reply ∷ []) result events.old.items events.new.items (parts_of (R.held rig.new)) (R.wishes rig.new)
+        (run_on (plan_in_range (routing_of_words (R.published rig.old)) shape.now n call.now) (parts_of (R.held rig.old))
+        (R.wishes rig.old)) }
     ensures missing { IsMissing result (R.held rig.old) }
     ensures held { SameInHand (R.held rig.old) (R.held rig.new) }
     ensures fits { FitsShape shape.now (R.held rig.new) }

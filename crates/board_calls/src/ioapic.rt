@@ -29,7 +29,8 @@ pub fn ioapic_store<R: Rig>(
 ) -> Result<Reply, Lacks>
     requires value { value < 2 ^ (8 * len) }
     requires fits { FitsShape shape.now (R.held rig.old) }
-    ensures does { TellsOn (λ reply. reply ∷ []) result events.old.items events.new.items (parts_of (R.held rig.new)) (R.wishes rig.new) (run_on (ioapic_store shape.now offset len value) (parts_of (R.held rig.old)) (R.wishes rig.old)) }
+    ensures does { TellsOn (λ reply. reply ∷ []) result events.old.items events.new.items (parts_of (R.held rig.new)) (R.wishes rig.new)
+        (run_on (ioapic_store shape.now offset len value) (parts_of (R.held rig.old)) (R.wishes rig.old)) }
     ensures missing { IsMissing result (R.held rig.old) }
     ensures held { SameInHand (R.held rig.old) (R.held rig.new) }
     ensures fits { FitsShape shape.now (R.held rig.new) }
@@ -71,7 +72,8 @@ fn resend_written<R: Rig>(
 ) -> Result<(), Lacks>
     requires pin { IfSome pin (λ p. p < 24) }
     requires fits { FitsShape shape.now (R.held rig.old) }
-    ensures does { Adds result events.old.items events.new.items (parts_of (R.held rig.new)) (R.wishes rig.new) (run_on (resend_written shape.now pin) (parts_of (R.held rig.old)) (R.wishes rig.old)) }
+    ensures does { Adds result events.old.items events.new.items (parts_of (R.held rig.new)) (R.wishes rig.new)
+        (run_on (resend_written shape.now pin) (parts_of (R.held rig.old)) (R.wishes rig.old)) }
     ensures missing { IsMissing result (R.held rig.old) }
     ensures held { SameInHand (R.held rig.old) (R.held rig.new) }
     ensures fits { FitsShape shape.now (R.held rig.new) }
@@ -89,7 +91,8 @@ fn resend_written<R: Rig>(
 fn resend_due<R: Rig>(rig: &mut R, shape: &Shape, pin: u8, events: &mut Events) -> Result<(), Lacks>
     requires pin { pin < 24 }
     requires fits { FitsShape shape.now (R.held rig.old) }
-    ensures does { Adds result events.old.items events.new.items (parts_of (R.held rig.new)) (R.wishes rig.new) (run_on (resend_written shape.now (Some pin)) (parts_of (R.held rig.old)) (R.wishes rig.old)) }
+    ensures does { Adds result events.old.items events.new.items (parts_of (R.held rig.new)) (R.wishes rig.new)
+        (run_on (resend_written shape.now (Some pin)) (parts_of (R.held rig.old)) (R.wishes rig.old)) }
     ensures missing { IsMissing result (R.held rig.old) }
     ensures held { SameInHand (R.held rig.old) (R.held rig.new) }
     ensures fits { FitsShape shape.now (R.held rig.new) }
@@ -108,7 +111,8 @@ fn resend_due<R: Rig>(rig: &mut R, shape: &Shape, pin: u8, events: &mut Events) 
 fn due_again(parts: &Parts, pin: u8) -> Result<Option<Message>, Lacks>
     requires pin { pin < 24 }
     requires pins { PinsFit (chips_of parts.now) }
-    ensures does { (ws : Wishes) → DoesQuietly (λ message. message) result (parts_of parts.now) ws (run_on (due_again pin) (parts_of parts.now) ws) }
+    ensures does { (ws : Wishes) →
+        DoesQuietly (λ message. message) result (parts_of parts.now) ws (run_on (due_again pin) (parts_of parts.now) ws) }
     ensures missing { IsMissing result parts.now }
 {
     match &parts.ioapic {
@@ -122,7 +126,8 @@ fn due_again(parts: &Parts, pin: u8) -> Result<Option<Message>, Lacks>
 fn write(parts: &mut Parts, offset: u8, len: u8, value: u64) -> Result<Option<u8>, Lacks>
     requires value { value < 2 ^ (8 * len) }
     requires pins { PinsFit (chips_of parts.old) }
-    ensures does { (ws : Wishes) → DoesQuietly (λ pin. pin) result (parts_of parts.new) ws (run_on (storing offset len value) (parts_of parts.old) ws) }
+    ensures does { (ws : Wishes) →
+        DoesQuietly (λ pin. pin) result (parts_of parts.new) ws (run_on (storing offset len value) (parts_of parts.old) ws) }
     ensures missing { IsMissing result parts.old }
     ensures in_range { IfOk result (λ pin. IfSome pin (λ p. p < 24)) }
     ensures held { SameInHand parts.old parts.new }

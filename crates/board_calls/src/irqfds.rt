@@ -36,7 +36,10 @@ pub fn assign<R: Rig>(
     requires gsi { gsi < 4096 }
     requires resample { IfSome resample (λ c. c < shape.now.counters) }
     requires fits { FitsShape shape.now (R.held rig.old) }
-    ensures does { R.astray rig.new ≡ false → TellsOn (λ reply. reply ∷ []) result events.old.items events.new.items (parts_of (R.held rig.new)) (R.wishes rig.new) (run_on (assign (routing_of_words (R.published rig.old)) shape.now trigger gsi resample) (parts_of (R.held rig.old)) (R.wishes rig.old)) }
+    ensures does { R.astray rig.new ≡ false →
+        TellsOn (λ reply. reply ∷ []) result events.old.items events.new.items (parts_of (R.held rig.new)) (R.wishes rig.new)
+        (run_on (assign (routing_of_words (R.published rig.old)) shape.now trigger gsi resample) (parts_of (R.held rig.old))
+        (R.wishes rig.old)) }
     ensures missing { IsMissing result (R.held rig.old) }
     ensures held { SameInHand (R.held rig.old) (R.held rig.new) }
     ensures fits { FitsShape shape.now (R.held rig.new) }
@@ -66,10 +69,12 @@ fn add(
     requires trigger { trigger < 256 }
     requires counter { IfSome parts.old.counters (λ counts. trigger < length counts) }
     requires gsi { gsi < 4096 }
-    ensures does { (ws : Wishes) → DoesQuietly (λ found. found) result (parts_of parts.new) ws (run_on (adding trigger gsi resample) (parts_of parts.old) ws) }
+    ensures does { (ws : Wishes) →
+        DoesQuietly (λ found. found) result (parts_of parts.new) ws (run_on (adding trigger gsi resample) (parts_of parts.old) ws) }
     ensures missing { IsMissing result parts.old }
     ensures held { SameInHand parts.old parts.new }
-    ensures fits { (shape : Sizes) → trigger < shape.counters → IfSome resample (λ c. c < shape.counters) → FitsShape shape parts.old → FitsShape shape parts.new }
+    ensures fits { (shape : Sizes) → trigger < shape.counters → IfSome resample (λ c. c < shape.counters) → FitsShape shape parts.old →
+        FitsShape shape parts.new }
 {
     let Some(registry) = &mut parts.registry else {
         return Err(Lacks {
@@ -96,7 +101,8 @@ fn add_to(
     resample: Option<u16>,
 ) -> Result<(), Refusal>
     requires { trigger < 256 }
-    ensures refusal { MatchResult result (λ _. first_of (assign_reasons (registry_of registry.old) trigger resample) ≡ None) (λ r. first_of (assign_reasons (registry_of registry.old) trigger resample) ≡ Some r) }
+    ensures refusal { MatchResult result (λ _. first_of (assign_reasons (registry_of registry.old) trigger resample) ≡ None)
+        (λ r. first_of (assign_reasons (registry_of registry.old) trigger resample) ≡ Some r) }
     ensures ok { OnOk result (registry.new ≡ record registry.old { irqfds = with_row registry.old.irqfds trigger gsi resample }) }
     ensures err { OnErr result (registry.new ≡ registry.old) }
 {
@@ -154,7 +160,10 @@ fn inject_count<R: Rig>(
 ) -> Result<(), Lacks>
     requires gsi { gsi < 4096 }
     requires fits { FitsShape shape.now (R.held rig.old) }
-    ensures does { R.astray rig.new ≡ false → TellsOn (λ _. []) result events.old.items events.new.items (parts_of (R.held rig.new)) (R.wishes rig.new) (run_on (inject_count (routing_of_words (R.published rig.old)) shape.now gsi resample true) (parts_of (R.held rig.old)) (R.wishes rig.old)) }
+    ensures does { R.astray rig.new ≡ false →
+        TellsOn (λ _. []) result events.old.items events.new.items (parts_of (R.held rig.new)) (R.wishes rig.new)
+        (run_on (inject_count (routing_of_words (R.published rig.old)) shape.now gsi resample true) (parts_of (R.held rig.old))
+        (R.wishes rig.old)) }
     ensures missing { IsMissing result (R.held rig.old) }
     ensures held { SameInHand (R.held rig.old) (R.held rig.new) }
     ensures fits { FitsShape shape.now (R.held rig.new) }
@@ -174,7 +183,9 @@ fn inject_count<R: Rig>(
 pub fn deassign<R: Rig>(rig: &mut R, trigger: u16, gsi: u16) -> Result<Reply, Lacks>
     requires gsi { gsi < 4096 }
     requires pins { PinsFit (chips_of (R.held rig.old)) }
-    ensures does { R.astray rig.new ≡ false → Replies (deassign (routing_of_words (R.published rig.old)) trigger gsi) (R.held rig.old) (R.wishes rig.old) result (R.held rig.new) (R.wishes rig.new) }
+    ensures does { R.astray rig.new ≡ false →
+        Replies (deassign (routing_of_words (R.published rig.old)) trigger gsi) (R.held rig.old) (R.wishes rig.old) result
+        (R.held rig.new) (R.wishes rig.new) }
     ensures missing { IsMissing result (R.held rig.old) }
     ensures held { SameInHand (R.held rig.old) (R.held rig.new) }
     ensures fits { (shape : Sizes) → FitsShape shape (R.held rig.old) → FitsShape shape (R.held rig.new) }
@@ -197,7 +208,8 @@ pub fn deassign<R: Rig>(rig: &mut R, trigger: u16, gsi: u16) -> Result<Reply, La
 // there is none.
 #[tactic(auto, using(crate::proofs::InHand::in_hand_rules))]
 fn remove(parts: &mut Parts, trigger: u16, gsi: u16) -> Result<Option<bool>, Lacks>
-    ensures does { (ws : Wishes) → DoesQuietly (λ last. last) result (parts_of parts.new) ws (run_on (removing trigger gsi) (parts_of parts.old) ws) }
+    ensures does { (ws : Wishes) →
+        DoesQuietly (λ last. last) result (parts_of parts.new) ws (run_on (removing trigger gsi) (parts_of parts.old) ws) }
     ensures missing { IsMissing result parts.old }
     ensures held { SameInHand parts.old parts.new }
     ensures fits { (shape : Sizes) → FitsShape shape parts.old → FitsShape shape parts.new }
@@ -215,7 +227,8 @@ fn remove(parts: &mut Parts, trigger: u16, gsi: u16) -> Result<Option<bool>, Lac
 #[tactic(auto, using(crate::proofs::Rows::row_rules))]
 fn remove_from(registry: &mut RegistryPart, trigger: u16, gsi: u16) -> Option<bool>
     ensures value { result ≡ last_removed registry.old.irqfds trigger gsi }
-    ensures after { MatchOption result (registry.new ≡ registry.old) (λ _. registry.new ≡ record registry.old { irqfds = without_row registry.old.irqfds trigger gsi }) }
+    ensures after { MatchOption result (registry.new ≡ registry.old)
+        (λ _. registry.new ≡ record registry.old { irqfds = without_row registry.old.irqfds trigger gsi }) }
 {
     match registry.irqfds.deassign(trigger, gsi) {
         None => None,
@@ -227,7 +240,9 @@ fn remove_from(registry: &mut RegistryPart, trigger: u16, gsi: u16) -> Option<bo
 fn release<R: Rig>(rig: &mut R, gsi: u16) -> Result<(), Lacks>
     requires gsi { gsi < 4096 }
     requires pins { PinsFit (chips_of (R.held rig.old)) }
-    ensures does { R.astray rig.new ≡ false → Leaves result (parts_of (R.held rig.new)) (R.wishes rig.new) (run_on (release (routing_of_words (R.published rig.old)) gsi true) (parts_of (R.held rig.old)) (R.wishes rig.old)) }
+    ensures does { R.astray rig.new ≡ false →
+        Leaves result (parts_of (R.held rig.new)) (R.wishes rig.new)
+        (run_on (release (routing_of_words (R.published rig.old)) gsi true) (parts_of (R.held rig.old)) (R.wishes rig.old)) }
     ensures missing { IsMissing result (R.held rig.old) }
     ensures held { SameInHand (R.held rig.old) (R.held rig.new) }
     ensures fits { (shape : Sizes) → FitsShape shape (R.held rig.old) → FitsShape shape (R.held rig.new) }

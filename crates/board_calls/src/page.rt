@@ -34,7 +34,10 @@ pub fn lapic_store<R: Rig>(
     requires cpu { n < shape.now.cpus }
     requires value { IsTrue (does_fit value len) }
     requires fits { FitsShape shape.now (R.held rig.old) }
-    ensures does { R.astray rig.new ≡ false → TellsOn (λ reply. reply ∷ []) result events.old.items events.new.items (parts_of (R.held rig.new)) (R.wishes rig.new) (run_on (lapic_store (routing_of_words (R.published rig.old)) shape.now n offset len value) (parts_of (R.held rig.old)) (R.wishes rig.old)) }
+    ensures does { R.astray rig.new ≡ false →
+        TellsOn (λ reply. reply ∷ []) result events.old.items events.new.items (parts_of (R.held rig.new)) (R.wishes rig.new)
+        (run_on (lapic_store (routing_of_words (R.published rig.old)) shape.now n offset len value) (parts_of (R.held rig.old))
+        (R.wishes rig.old)) }
     ensures missing { IsMissing result (R.held rig.old) }
     ensures held { SameInHand (R.held rig.old) (R.held rig.new) }
     ensures fits { FitsShape shape.now (R.held rig.new) }
@@ -56,7 +59,8 @@ pub fn lapic_store<R: Rig>(
 fn store(parts: &mut Parts, n: u16, offset: u16, len: u8, value: u64) -> Result<Effect, Lacks>
     requires place { n < length parts.old.lapics }
     requires value { IsTrue (does_fit value len) }
-    ensures does { (ws : Wishes) → DoesQuietly (λ effect. effect) result (parts_of parts.new) ws (run_on (storing n offset len value) (parts_of parts.old) ws) }
+    ensures does { (ws : Wishes) →
+        DoesQuietly (λ effect. effect) result (parts_of parts.new) ws (run_on (storing n offset len value) (parts_of parts.old) ws) }
     ensures missing { IsMissing result parts.old }
     ensures held { SameInHand parts.old parts.new }
     ensures fits { (shape : Sizes) → FitsShape shape parts.old → FitsShape shape parts.new }
@@ -81,7 +85,10 @@ fn bring_about<R: Rig>(
     events: &mut Events,
 ) -> Result<(), Lacks>
     requires { FitsShape shape.now (R.held rig.old) }
-    ensures does { R.astray rig.new ≡ false → TellsOn (λ _. []) result events.old.items events.new.items (parts_of (R.held rig.new)) (R.wishes rig.new) (run_on (store_effects (routing_of_words (R.published rig.old)) shape.now n effect.now) (parts_of (R.held rig.old)) (R.wishes rig.old)) }
+    ensures does { R.astray rig.new ≡ false →
+        TellsOn (λ _. []) result events.old.items events.new.items (parts_of (R.held rig.new)) (R.wishes rig.new)
+        (run_on (store_effects (routing_of_words (R.published rig.old)) shape.now n effect.now) (parts_of (R.held rig.old))
+        (R.wishes rig.old)) }
     ensures missing { IsMissing result (R.held rig.old) }
     ensures held { SameInHand (R.held rig.old) (R.held rig.new) }
     ensures fits { FitsShape shape.now (R.held rig.new) }
@@ -105,7 +112,9 @@ fn send_ipi<R: Rig>(
     events: &mut Events,
 ) -> Result<(), Lacks>
     requires { FitsShape shape.now (R.held rig.old) }
-    ensures does { TellsOn (λ _. []) result events.old.items events.new.items (parts_of (R.held rig.new)) (R.wishes rig.new) (run_on (store_effects (routing_of_words (R.published rig.old)) shape.now n (Send ipi.now)) (parts_of (R.held rig.old)) (R.wishes rig.old)) }
+    ensures does { TellsOn (λ _. []) result events.old.items events.new.items (parts_of (R.held rig.new)) (R.wishes rig.new)
+        (run_on (store_effects (routing_of_words (R.published rig.old)) shape.now n (Send ipi.now)) (parts_of (R.held rig.old))
+        (R.wishes rig.old)) }
     ensures missing { IsMissing result (R.held rig.old) }
     ensures held { SameInHand (R.held rig.old) (R.held rig.new) }
     ensures fits { FitsShape shape.now (R.held rig.new) }

@@ -32,7 +32,10 @@ pub fn port_out<R: Rig>(
 ) -> Result<Reply, Lacks>
     requires value { value < 2 ^ (8 * len) }
     requires fits { FitsShape shape.now (R.held rig.old) }
-    ensures does { R.astray rig.new ≡ false → TellsOn (λ reply. reply ∷ []) result events.old.items events.new.items (parts_of (R.held rig.new)) (R.wishes rig.new) (run_on (port_out (routing_of_words (R.published rig.old)) shape.now port len value) (parts_of (R.held rig.old)) (R.wishes rig.old)) }
+    ensures does { R.astray rig.new ≡ false →
+        TellsOn (λ reply. reply ∷ []) result events.old.items events.new.items (parts_of (R.held rig.new)) (R.wishes rig.new)
+        (run_on (port_out (routing_of_words (R.published rig.old)) shape.now port len value) (parts_of (R.held rig.old))
+        (R.wishes rig.old)) }
     ensures missing { IsMissing result (R.held rig.old) }
     ensures held { SameInHand (R.held rig.old) (R.held rig.new) }
     ensures fits { FitsShape shape.now (R.held rig.new) }
@@ -65,7 +68,10 @@ pub fn port_in<R: Rig>(
     events: &mut Events,
 ) -> Result<Reply, Lacks>
     requires fits { FitsShape shape.now (R.held rig.old) }
-    ensures does { R.astray rig.new ≡ false → TellsOn (λ reply. reply ∷ []) result events.old.items events.new.items (parts_of (R.held rig.new)) (R.wishes rig.new) (run_on (port_in (routing_of_words (R.published rig.old)) shape.now port len) (parts_of (R.held rig.old)) (R.wishes rig.old)) }
+    ensures does { R.astray rig.new ≡ false →
+        TellsOn (λ reply. reply ∷ []) result events.old.items events.new.items (parts_of (R.held rig.new)) (R.wishes rig.new)
+        (run_on (port_in (routing_of_words (R.published rig.old)) shape.now port len) (parts_of (R.held rig.old))
+        (R.wishes rig.old)) }
     ensures missing { IsMissing result (R.held rig.old) }
     ensures held { SameInHand (R.held rig.old) (R.held rig.new) }
     ensures fits { FitsShape shape.now (R.held rig.new) }
@@ -84,7 +90,9 @@ pub fn port_in<R: Rig>(
 /// automatic EOI are, with their events.
 pub fn inta<R: Rig>(rig: &mut R, shape: &Shape, events: &mut Events) -> Result<Reply, Lacks>
     requires fits { FitsShape shape.now (R.held rig.old) }
-    ensures does { R.astray rig.new ≡ false → TellsOn (λ reply. reply ∷ []) result events.old.items events.new.items (parts_of (R.held rig.new)) (R.wishes rig.new) (run_on (inta (routing_of_words (R.published rig.old)) shape.now) (parts_of (R.held rig.old)) (R.wishes rig.old)) }
+    ensures does { R.astray rig.new ≡ false →
+        TellsOn (λ reply. reply ∷ []) result events.old.items events.new.items (parts_of (R.held rig.new)) (R.wishes rig.new)
+        (run_on (inta (routing_of_words (R.published rig.old)) shape.now) (parts_of (R.held rig.old)) (R.wishes rig.old)) }
     ensures missing { IsMissing result (R.held rig.old) }
     ensures held { SameInHand (R.held rig.old) (R.held rig.new) }
     ensures fits { FitsShape shape.now (R.held rig.new) }
@@ -110,7 +118,10 @@ fn write_pair<R: Rig>(
     requires port { IsTrue (is_port port) }
     requires value { value < 2 ^ (8 * len) }
     requires fits { FitsShape shape.now (R.held rig.old) }
-    ensures does { R.astray rig.new ≡ false → TellsOn (λ reply. reply ∷ []) result events.old.items events.new.items (parts_of (R.held rig.new)) (R.wishes rig.new) (run_on (pair_write (routing_of_words (R.published rig.old)) shape.now port len value) (parts_of (R.held rig.old)) (R.wishes rig.old)) }
+    ensures does { R.astray rig.new ≡ false →
+        TellsOn (λ reply. reply ∷ []) result events.old.items events.new.items (parts_of (R.held rig.new)) (R.wishes rig.new)
+        (run_on (pair_write (routing_of_words (R.published rig.old)) shape.now port len value) (parts_of (R.held rig.old))
+        (R.wishes rig.old)) }
     ensures missing { IsMissing result (R.held rig.old) }
     ensures held { SameInHand (R.held rig.old) (R.held rig.new) }
     ensures fits { FitsShape shape.now (R.held rig.new) }
@@ -138,7 +149,10 @@ fn read_pair<R: Rig>(
 ) -> Result<Reply, Lacks>
     requires port { IsTrue (is_port port) }
     requires fits { FitsShape shape.now (R.held rig.old) }
-    ensures does { R.astray rig.new ≡ false → TellsOn (λ reply. reply ∷ []) result events.old.items events.new.items (parts_of (R.held rig.new)) (R.wishes rig.new) (run_on (pair_read (routing_of_words (R.published rig.old)) shape.now port len) (parts_of (R.held rig.old)) (R.wishes rig.old)) }
+    ensures does { R.astray rig.new ≡ false →
+        TellsOn (λ reply. reply ∷ []) result events.old.items events.new.items (parts_of (R.held rig.new)) (R.wishes rig.new)
+        (run_on (pair_read (routing_of_words (R.published rig.old)) shape.now port len) (parts_of (R.held rig.old))
+        (R.wishes rig.old)) }
     ensures missing { IsMissing result (R.held rig.old) }
     ensures held { SameInHand (R.held rig.old) (R.held rig.new) }
     ensures fits { FitsShape shape.now (R.held rig.new) }
@@ -162,7 +176,8 @@ fn write(parts: &mut Parts, port: u16, len: u8, value: u32) -> Result<Option<u8>
     requires port { IsTrue (is_port port) }
     requires value { value < 2 ^ (8 * len) }
     requires pins { PinsFit (chips_of parts.old) }
-    ensures does { (ws : Wishes) → DoesQuietly (λ pin. pin) result (parts_of parts.new) ws (run_on (writing port len value) (parts_of parts.old) ws) }
+    ensures does { (ws : Wishes) →
+        DoesQuietly (λ pin. pin) result (parts_of parts.new) ws (run_on (writing port len value) (parts_of parts.old) ws) }
     ensures missing { IsMissing result parts.old }
     ensures in_range { IfOk result (λ pin. IfSome pin (λ p. p < 16)) }
     ensures held { SameInHand parts.old parts.new }
@@ -185,7 +200,8 @@ fn write(parts: &mut Parts, port: u16, len: u8, value: u32) -> Result<Option<u8>
 fn read(parts: &mut Parts, port: u16, len: u8) -> Result<(u8, Option<u8>), Lacks>
     requires port { IsTrue (is_port port) }
     requires pins { PinsFit (chips_of parts.old) }
-    ensures does { (ws : Wishes) → DoesQuietly (λ gave. gave) result (parts_of parts.new) ws (run_on (reading port len) (parts_of parts.old) ws) }
+    ensures does { (ws : Wishes) →
+        DoesQuietly (λ gave. gave) result (parts_of parts.new) ws (run_on (reading port len) (parts_of parts.old) ws) }
     ensures missing { IsMissing result parts.old }
     ensures in_range { IfOk result (λ gave. IfSome gave.1 (λ p. p < 16)) }
     ensures held { SameInHand parts.old parts.new }

@@ -124,7 +124,8 @@ fn detach_in(registry: &mut RegistryPart, row: &IoRow) -> Result<(), Refusal>
 
 // The notifier stands in the registry from now on, unless it is refused.
 fn watch_in(registry: &mut RegistryPart, counter: u16, gsi: u16) -> Result<(), Refusal>
-    ensures refusal { MatchResult result (λ _. first_of (watch_reasons (registry_of registry.old) counter gsi) ≡ None) (λ r. first_of (watch_reasons (registry_of registry.old) counter gsi) ≡ Some r) }
+    ensures refusal { MatchResult result (λ _. first_of (watch_reasons (registry_of registry.old) counter gsi) ≡ None)
+        (λ r. first_of (watch_reasons (registry_of registry.old) counter gsi) ≡ Some r) }
     ensures ok { OnOk result (registry.new ≡ record registry.old { watches = with_row registry.old.watches counter gsi }) }
     ensures err { OnErr result (registry.new ≡ registry.old) }
 {

@@ -31,7 +31,10 @@ pub fn ring<R: Rig>(
     events: &mut Events,
 ) -> Result<Reply, Lacks>
     requires fits { FitsShape shape.now (R.held rig.old) }
-    ensures does { R.astray rig.new ≡ false → TellsOn (λ reply. reply ∷ []) result events.old.items events.new.items (parts_of (R.held rig.new)) (R.wishes rig.new) (run_on (ring (routing_of_words (R.published rig.old)) shape.now space address len value) (parts_of (R.held rig.old)) (R.wishes rig.old)) }
+    ensures does { R.astray rig.new ≡ false →
+        TellsOn (λ reply. reply ∷ []) result events.old.items events.new.items (parts_of (R.held rig.new)) (R.wishes rig.new)
+        (run_on (ring (routing_of_words (R.published rig.old)) shape.now space address len value) (parts_of (R.held rig.old))
+        (R.wishes rig.old)) }
     ensures missing { IsMissing result (R.held rig.old) }
     ensures held { SameInHand (R.held rig.old) (R.held rig.new) }
     ensures fits { FitsShape shape.now (R.held rig.new) }
@@ -55,7 +58,10 @@ fn ring_ioevent<R: Rig>(
 ) -> Result<Reply, Lacks>
     requires counter { counter < shape.now.counters }
     requires fits { FitsShape shape.now (R.held rig.old) }
-    ensures does { R.astray rig.new ≡ false → TellsOn (λ reply. reply ∷ []) result events.old.items events.new.items (parts_of (R.held rig.new)) (R.wishes rig.new) (run_on (rung (routing_of_words (R.published rig.old)) shape.now (Some counter)) (parts_of (R.held rig.old)) (R.wishes rig.old)) }
+    ensures does { R.astray rig.new ≡ false →
+        TellsOn (λ reply. reply ∷ []) result events.old.items events.new.items (parts_of (R.held rig.new)) (R.wishes rig.new)
+        (run_on (rung (routing_of_words (R.published rig.old)) shape.now (Some counter)) (parts_of (R.held rig.old))
+        (R.wishes rig.old)) }
     ensures missing { IsMissing result (R.held rig.old) }
     ensures held { SameInHand (R.held rig.old) (R.held rig.new) }
     ensures fits { FitsShape shape.now (R.held rig.new) }
@@ -78,7 +84,8 @@ fn rung_by(
     len: u8,
     value: u64,
 ) -> Result<Option<u16>, Lacks>
-    ensures does { (ws : Wishes) → DoesQuietly (λ rung. rung) result (parts_of parts.now) ws (run_on (ringing space address len value) (parts_of parts.now) ws) }
+    ensures does { (ws : Wishes) →
+        DoesQuietly (λ rung. rung) result (parts_of parts.now) ws (run_on (ringing space address len value) (parts_of parts.now) ws) }
     ensures missing { IsMissing result parts.now }
     ensures counter { (shape : Sizes) → FitsShape shape parts.now → IfOk result (λ rung. IfSome rung (λ c. c < shape.counters)) }
 {
@@ -99,7 +106,9 @@ fn ring_counter<R: Rig>(
 ) -> Result<(), Lacks>
     requires counter { counter < shape.now.counters }
     requires fits { FitsShape shape.now (R.held rig.old) }
-    ensures does { let routing = routing_of_words (R.published rig.old) in R.astray rig.new ≡ false → Adds result events.old.items events.new.items (parts_of (R.held rig.new)) (R.wishes rig.new) (run_on (ring_counter routing shape.now counter (routing.trigger counter)) (parts_of (R.held rig.old)) (R.wishes rig.old)) }
+    ensures does { let routing = routing_of_words (R.published rig.old) in R.astray rig.new ≡ false →
+        Adds result events.old.items events.new.items (parts_of (R.held rig.new)) (R.wishes rig.new)
+        (run_on (ring_counter routing shape.now counter (routing.trigger counter)) (parts_of (R.held rig.old)) (R.wishes rig.old)) }
     ensures missing { IsMissing result (R.held rig.old) }
     ensures held { SameInHand (R.held rig.old) (R.held rig.new) }
     ensures fits { FitsShape shape.now (R.held rig.new) }
@@ -117,7 +126,9 @@ fn ring_counter<R: Rig>(
 #[tactic(auto, using(crate::proofs::InHand::in_hand_rules))]
 fn signal(parts: &mut Parts, counter: u16) -> Result<(), Lacks>
     requires { IfSome parts.old.counters (λ counts. counter < length counts) }
-    ensures does { (ws : Wishes) → Leaves result (parts_of parts.new) ws (run_on (change Counters (λ counts. signalled counts counter)) (parts_of parts.old) ws) }
+    ensures does { (ws : Wishes) →
+        Leaves result (parts_of parts.new) ws
+        (run_on (change Counters (λ counts. signalled counts counter)) (parts_of parts.old) ws) }
     ensures missing { IsMissing result parts.old }
     ensures held { SameInHand parts.old parts.new }
     ensures fits { (shape : Sizes) → FitsShape shape parts.old → FitsShape shape parts.new }

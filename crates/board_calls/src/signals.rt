@@ -24,7 +24,9 @@ pub fn raise_line<R: Rig>(rig: &mut R, shape: &Shape, gsi: u16, line: u8) -> Res
     requires gsi { gsi < 4096 }
     requires line { line < 8 }
     requires fits { FitsShape shape.now (R.held rig.old) }
-    ensures does { R.astray rig.new ≡ false → Replies (line_set (routing_of_words (R.published rig.old)) shape.now gsi line true) (R.held rig.old) (R.wishes rig.old) result (R.held rig.new) (R.wishes rig.new) }
+    ensures does { R.astray rig.new ≡ false →
+        Replies (line_set (routing_of_words (R.published rig.old)) shape.now gsi line true) (R.held rig.old) (R.wishes rig.old)
+        result (R.held rig.new) (R.wishes rig.new) }
     ensures missing { IsMissing result (R.held rig.old) }
     ensures held { SameInHand (R.held rig.old) (R.held rig.new) }
     ensures fits { FitsShape shape.now (R.held rig.new) }
@@ -44,7 +46,9 @@ pub fn lower_line<R: Rig>(rig: &mut R, gsi: u16, line: u8) -> Result<Reply, Lack
     requires gsi { gsi < 4096 }
     requires line { line < 8 }
     requires pins { PinsFit (chips_of (R.held rig.old)) }
-    ensures does { R.astray rig.new ≡ false → Replies (lower ((routing_of_words (R.published rig.old)).targets gsi) (Line line)) (R.held rig.old) (R.wishes rig.old) result (R.held rig.new) (R.wishes rig.new) }
+    ensures does { R.astray rig.new ≡ false →
+        Replies (lower ((routing_of_words (R.published rig.old)).targets gsi) (Line line)) (R.held rig.old) (R.wishes rig.old)
+        result (R.held rig.new) (R.wishes rig.new) }
     ensures missing { IsMissing result (R.held rig.old) }
     ensures held { SameInHand (R.held rig.old) (R.held rig.new) }
     ensures fits { (shape : Sizes) → FitsShape shape (R.held rig.old) → FitsShape shape (R.held rig.new) }
@@ -68,7 +72,8 @@ pub fn send_message<R: Rig>(
 ) -> Result<Reply, Lacks>
     requires good { address / 2 ^ 20 ≡ 0xfee }
     requires fits { FitsShape shape.now (R.held rig.old) }
-    ensures does { Replies (message_sent shape.now address payload) (R.held rig.old) (R.wishes rig.old) result (R.held rig.new) (R.wishes rig.new) }
+    ensures does { Replies (message_sent shape.now address payload) (R.held rig.old) (R.wishes rig.old) result (R.held rig.new)
+        (R.wishes rig.new) }
     ensures missing { IsMissing result (R.held rig.old) }
     ensures held { SameInHand (R.held rig.old) (R.held rig.new) }
     ensures fits { FitsShape shape.now (R.held rig.new) }
@@ -99,7 +104,9 @@ pub fn write<R: Rig>(rig: &mut R, shape: &Shape, counter: u16, n: u64) -> Result
     requires counter { counter < shape.now.counters }
     requires count { n < 2 ^ 64 - 1 }
     requires fits { FitsShape shape.now (R.held rig.old) }
-    ensures does { let routing = routing_of_words (R.published rig.old) in R.astray rig.new ≡ false → Replies (write routing shape.now (routing.trigger counter) counter n) (R.held rig.old) (R.wishes rig.old) result (R.held rig.new) (R.wishes rig.new) }
+    ensures does { let routing = routing_of_words (R.published rig.old) in R.astray rig.new ≡ false →
+        Replies (write routing shape.now (routing.trigger counter) counter n) (R.held rig.old) (R.wishes rig.old) result
+        (R.held rig.new) (R.wishes rig.new) }
     ensures missing { IsMissing result (R.held rig.old) }
     ensures held { SameInHand (R.held rig.old) (R.held rig.new) }
     ensures fits { FitsShape shape.now (R.held rig.new) }
@@ -122,7 +129,9 @@ pub fn write_trigger<R: Rig>(
 ) -> Result<Reply, Lacks>
     requires gsi { trigger.gsi < 4096 }
     requires fits { FitsShape shape.now (R.held rig.old) }
-    ensures does { R.astray rig.new ≡ false → Replies (trigger_written (routing_of_words (R.published rig.old)) shape.now trigger) (R.held rig.old) (R.wishes rig.old) result (R.held rig.new) (R.wishes rig.new) }
+    ensures does { R.astray rig.new ≡ false →
+        Replies (trigger_written (routing_of_words (R.published rig.old)) shape.now trigger) (R.held rig.old) (R.wishes rig.old)
+        result (R.held rig.new) (R.wishes rig.new) }
     ensures missing { IsMissing result (R.held rig.old) }
     ensures held { SameInHand (R.held rig.old) (R.held rig.new) }
     ensures fits { FitsShape shape.now (R.held rig.new) }
@@ -147,7 +156,10 @@ pub fn inject_told<R: Rig>(
 ) -> Result<(), Lacks>
     requires gsi { trigger.gsi < 4096 }
     requires fits { FitsShape shape.now (R.held rig.old) }
-    ensures does { (counter : ℕ) → R.astray rig.new ≡ false → Adds result events.old.items events.new.items (parts_of (R.held rig.new)) (R.wishes rig.new) (run_on (ring_counter (routing_of_words (R.published rig.old)) shape.now counter (Some trigger)) (parts_of (R.held rig.old)) (R.wishes rig.old)) }
+    ensures does { (counter : ℕ) → R.astray rig.new ≡ false →
+        Adds result events.old.items events.new.items (parts_of (R.held rig.new)) (R.wishes rig.new)
+        (run_on (ring_counter (routing_of_words (R.published rig.old)) shape.now counter (Some trigger))
+        (parts_of (R.held rig.old)) (R.wishes rig.old)) }
     ensures missing { IsMissing result (R.held rig.old) }
     ensures held { SameInHand (R.held rig.old) (R.held rig.new) }
     ensures fits { FitsShape shape.now (R.held rig.new) }

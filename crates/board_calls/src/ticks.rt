@@ -36,7 +36,9 @@ pub fn set_mode(parts: &mut Parts, reinject: bool) -> Result<Reply, Lacks>
 /// One more may be pending than before, and so one more than parts that fit a shape have.
 pub fn tick<R: Rig>(rig: &mut R, shape: &Shape) -> Result<Reply, Lacks>
     requires fits { FitsShape shape.now (R.held rig.old) }
-    ensures does { R.astray rig.new ≡ false → Replies (tick (routing_of_words (R.published rig.old)) shape.now) (R.held rig.old) (R.wishes rig.old) result (R.held rig.new) (R.wishes rig.new) }
+    ensures does { R.astray rig.new ≡ false →
+        Replies (tick (routing_of_words (R.published rig.old)) shape.now) (R.held rig.old) (R.wishes rig.old) result
+        (R.held rig.new) (R.wishes rig.new) }
     ensures missing { IsMissing result (R.held rig.old) }
     ensures held { SameInHand (R.held rig.old) (R.held rig.new) }
     ensures fits { FitsButTick shape.now (R.held rig.new) }
@@ -73,7 +75,9 @@ fn fall(parts: &mut Parts) -> Result<Option<u64>, Lacks>
 // A tick is injected on the tick's GSI, and its status tells whether the next may be injected.
 fn inject_tick<R: Rig>(rig: &mut R, shape: &Shape) -> Result<Reply, Lacks>
     requires fits { FitsButTick shape.now (R.held rig.old) }
-    ensures does { R.astray rig.new ≡ false → Replies (inject_tick (routing_of_words (R.published rig.old)) shape.now (λ pic. the_reply pic)) (R.held rig.old) (R.wishes rig.old) result (R.held rig.new) (R.wishes rig.new) }
+    ensures does { R.astray rig.new ≡ false →
+        Replies (inject_tick (routing_of_words (R.published rig.old)) shape.now (λ pic. the_reply pic)) (R.held rig.old)
+        (R.wishes rig.old) result (R.held rig.new) (R.wishes rig.new) }
     ensures missing { IsMissing result (R.held rig.old) }
     ensures held { SameInHand (R.held rig.old) (R.held rig.new) }
     ensures fits { FitsButTick shape.now (R.held rig.new) }
@@ -95,7 +99,8 @@ fn inject_tick<R: Rig>(rig: &mut R, shape: &Shape) -> Result<Reply, Lacks>
 // The tick state learns the status of an injection.
 #[tactic(auto, using(crate::proofs::InHand::in_hand_rules))]
 fn note_injection(parts: &mut Parts, status: &Status) -> Result<(), Lacks>
-    ensures does { (ws : Wishes) → Leaves result (parts_of parts.new) ws (run_on (change Tick (λ tick. tick_injected tick status.now)) (parts_of parts.old) ws) }
+    ensures does { (ws : Wishes) →
+        Leaves result (parts_of parts.new) ws (run_on (change Tick (λ tick. tick_injected tick status.now)) (parts_of parts.old) ws) }
     ensures missing { IsMissing result parts.old }
     ensures held { SameInHand parts.old parts.new }
     ensures fits { (shape : Sizes) → FitsButTick shape parts.old → FitsButTick shape parts.new }

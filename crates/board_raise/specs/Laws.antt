@@ -56,7 +56,8 @@ has_request_on b message n = has_request message (record { number = n; apic = pa
 -- a message was sent once, and it reached the processors of that set: those of them where its request stood before and those
 -- where it is new show in the event or in the reply, and they decide what the message answers; each of them, and no other
 -- processor, accepts the message
-pub record IsSending (message : Message) (from : Option (ℕ × Shorthand)) (about : About) (b : Board) (s : Numbers) (o : Outcome TargetAnswer) : Type 0 where
+pub record IsSending (message : Message) (from : Option (ℕ × Shorthand)) (about : About) (b : Board) (s : Numbers)
+    (o : Outcome TargetAnswer) : Type 0 where
   pub sent : Sent
   pub once : o.log.sendings ≡ record { heading = record { message = message; from = from }; sent = sent } ∷ []
   pub reaches : reached sent ≡ s
@@ -65,20 +66,28 @@ pub record IsSending (message : Message) (from : Option (ℕ × Shorthand)) (abo
   pub events : o.log.events ≡ events_of about sent
   pub answers : o.log.answers ≡ answers_of about sent
   pub value : o.value ≡ message_answer sent
-  pub after : (n : ℕ) → part_of o.board (Lapic n) ≡ (if set.contains s n then accepted (part_of b (Lapic n)) message else part_of b (Lapic n))
+  pub after : (n : ℕ) →
+      part_of o.board (Lapic n) ≡ (if set.contains s n then accepted (part_of b (Lapic n)) message else part_of b (Lapic n))
 
 -- the message is sent once, under each wish to a set that may be reached, and to each set that may be reached under some
 -- wish
 pub record ReachesExactly (cpus : ℕ) (message : Message) (from : Option (ℕ × Shorthand)) (about : About) (b : Board) : Type 0 where
-  pub only : (ws : Wishes) → (s : Numbers) × MayReach message.mode (named_on b cpus message from) s × IsSending message from about b s (run (send cpus message from about) b ws)
-  pub every : (s : Numbers) → MayReach message.mode (named_on b cpus message from) s → (wish : Numbers) × IsSending message from about b s (run (send cpus message from about) b (wish ∷ []))
+  pub only : (ws : Wishes) →
+      (s : Numbers) × MayReach message.mode (named_on b cpus message from) s ×
+      IsSending message from about b s (run (send cpus message from about) b ws)
+  pub every : (s : Numbers) → MayReach message.mode (named_on b cpus message from) s →
+      (wish : Numbers) × IsSending message from about b s (run (send cpus message from about) b (wish ∷ []))
 
 -- so it is of each message that comes to be sent
 abbrev pub WishesReachExactly : Type 0
-WishesReachExactly = (cpus : ℕ) (message : Message) (from : Option (ℕ × Shorthand)) (about : About) (b : Board) → HasProcessors b cpus → IsSent message (named_on b cpus message from) → ReachesExactly cpus message from about b
+WishesReachExactly =
+    (cpus : ℕ) (message : Message) (from : Option (ℕ × Shorthand)) (about : About) (b : Board) → HasProcessors b cpus →
+    IsSent message (named_on b cpus message from) → ReachesExactly cpus message from about b
 
 -- ---- of an illegal vector
 
 -- a named processor that accepts a message with an illegal vector records ESR bit 6, and nothing else of it changes
 abbrev pub IllegalVectorIsRecorded : Type 0
-IllegalVectorIsRecorded = (message : Message) (from : Option (ℕ × Shorthand)) (p : Processor) → is_taken message.mode ≡ true → is_named message from p ≡ true → is_illegal message ≡ true → accepted p.apic message ≡ with_error p.apic 6
+IllegalVectorIsRecorded =
+    (message : Message) (from : Option (ℕ × Shorthand)) (p : Processor) → is_taken message.mode ≡ true →
+    is_named message from p ≡ true → is_illegal message ≡ true → accepted p.apic message ≡ with_error p.apic 6

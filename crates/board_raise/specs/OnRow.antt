@@ -49,7 +49,8 @@ accepted_at n (Some apic) message row = slice_set row n (Some (accepted apic mes
 -- each of these processors that is in the set accepts the message, one after another
 abbrev pub accepted_by : Message → Numbers → List ℕ → Row → Row
 accepted_by message takers [] row = row
-accepted_by message takers (n ∷ ns) row = accepted_by message takers ns (if set.contains takers n then accepted_at n (apic_in row n) message row else row)
+accepted_by message takers (n ∷ ns) row =
+    accepted_by message takers ns (if set.contains takers n then accepted_at n (apic_in row n) message row else row)
 
 -- the named ones of these processors
 abbrev pub named_in : Row → List ℕ → Message → Option (ℕ × Shorthand) → List Processor

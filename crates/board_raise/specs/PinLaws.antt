@@ -12,13 +12,15 @@ use Rattle.board_raise.specs.Signal.{pic_raised, pic_let_go, ioapic_raised, ioap
 -- comes, lowered when the last one goes, and left as it is while another source holds it
 pub record PicFollowsHolds (pic : PicPart) (pin : ℕ) (source : Source) : Type 0 where
   pub raised : pair_of (pic_raised pic pin source) ≡ pin_set (pair_of pic) pin true
-  pub lowered : is_high (set.remove pic.holds (hold pin source)) pin ≡ false → pair_of (pic_let_go pic pin source) ≡ pin_set (pair_of pic) pin false
+  pub lowered : is_high (set.remove pic.holds (hold pin source)) pin ≡ false →
+      pair_of (pic_let_go pic pin source) ≡ pin_set (pair_of pic) pin false
   pub stays : is_high (set.remove pic.holds (hold pin source)) pin ≡ true → pair_of (pic_let_go pic pin source) ≡ pair_of pic
 
 -- the same of a pin of the I/O APIC
 pub record IoapicFollowsHolds (part : IoapicPart) (pin : ℕ) (source : Source) : Type 0 where
   pub raised : ioapic_of (ioapic_raised part pin source) ≡ raised (ioapic_of part) pin
-  pub lowered : is_high (set.remove part.holds (hold pin source)) pin ≡ false → ioapic_of (ioapic_let_go part pin source) ≡ lowered (ioapic_of part) pin
+  pub lowered : is_high (set.remove part.holds (hold pin source)) pin ≡ false →
+      ioapic_of (ioapic_let_go part pin source) ≡ lowered (ioapic_of part) pin
   pub stays : is_high (set.remove part.holds (hold pin source)) pin ≡ true → ioapic_of (ioapic_let_go part pin source) ≡ ioapic_of part
 
 -- so it is of each pin that there is

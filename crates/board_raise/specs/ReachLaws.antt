@@ -33,7 +33,9 @@ of_message message from cpus q = is_taken message.mode && is_of_one (reached_by 
 
 -- a sending reaches what its message reaches, under all wishes
 abbrev pub SendsReachTheSame : Type 0
-SendsReachTheSame = (cpus : ℕ) (message : Message) (from : Option (ℕ × Shorthand)) (about : About) (b : Board) (ws : Wishes) (q : Part) → reaches (send cpus message from about) b ws q ≡ of_message message from cpus q
+SendsReachTheSame =
+    (cpus : ℕ) (message : Message) (from : Option (ℕ × Shorthand)) (about : About) (b : Board) (ws : Wishes) (q : Part) →
+    reaches (send cpus message from about) b ws q ≡ of_message message from cpus q
 
 -- ---- signals
 
@@ -62,10 +64,13 @@ abbrev pub of_fall : Targets → Part → Bool
 of_fall targets q = of_pin targets.pic Pic q || of_pin targets.ioapic Ioapic q
 
 -- a raise, a fall and an injection reach this, under all wishes; an injection reaches what its raise reaches
-pub record SignalReaches (cpus : ℕ) (targets : Targets) (source : Source) (about : Option TargetAnswer → About) (b : Board) (ws : Wishes) (q : Part) : Type 0 where
+pub record SignalReaches (cpus : ℕ) (targets : Targets) (source : Source) (about : Option TargetAnswer → About) (b : Board)
+    (ws : Wishes) (q : Part) : Type 0 where
   pub raised : reaches (raise cpus targets source about) b ws q ≡ of_raise b targets cpus q
   pub fallen : reaches (lower targets source) b ws q ≡ of_fall targets q
   pub injected : reaches (inject cpus targets source about) b ws q ≡ of_raise b targets cpus q
 
 abbrev pub SignalsReachTheSame : Type 0
-SignalsReachTheSame = (cpus : ℕ) (targets : Targets) (source : Source) (about : Option TargetAnswer → About) (b : Board) (ws : Wishes) (q : Part) → SignalReaches cpus targets source about b ws q
+SignalsReachTheSame =
+    (cpus : ℕ) (targets : Targets) (source : Source) (about : Option TargetAnswer → About) (b : Board) (ws : Wishes) (q : Part) →
+    SignalReaches cpus targets source about b ws q

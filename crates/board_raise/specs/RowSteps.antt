@@ -86,7 +86,8 @@ with_answer s n (Some answer) = record s { new = set.insert s.new n }
 unfoldable pub reached_after : Message → Numbers → List ℕ → Row → Reached → Reached
 reached_after message takers [] row reached = reached
 reached_after message takers (n ∷ ns) row reached =
-    if set.contains takers n then reached_after message takers ns (accepted_at n (apic_in row n) message row) (with_answer reached n (answer_at (apic_in row n) message))
+    if set.contains takers n then reached_after message takers ns (accepted_at n (apic_in row n) message row)
+    (with_answer reached n (answer_at (apic_in row n) message))
     else reached_after message takers ns row reached
 
 -- whether a message goes to one processor of lowest priority (SDM volume 3, lowest priority delivery)

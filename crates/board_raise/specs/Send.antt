@@ -99,7 +99,8 @@ accept_each message takers (p ∷ ps) =
 -- steps 4 and 5: the chosen processors, under the wish that is next, show at once, and each accepts
 abbrev pub deliver : Message → Option (ℕ × Shorthand) → About → List Processor → List Processor → Plan TargetAnswer
 deliver message from about processors named = do
-  sent ← choose (record { message = message; from = from }) about (λ wish. parted message (chosen_of message.mode wish named)) (λ sent. done sent)
+  sent ← choose (record { message = message; from = from }) about (λ wish. parted message (chosen_of message.mode wish named))
+      (λ sent. done sent)
   accept_each message (reached sent) processors
   done (message_answer sent)
 

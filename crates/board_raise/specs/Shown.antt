@@ -22,7 +22,8 @@ use Rattle.board_raise.specs.Told.{answer_in, events_told, answers_told}
 -- ---- a plan on the parts in hand
 
 -- it ended with this value, told these events, gave these replies, and left these parts and wishes
-pub record IsEnd {A : Type 0} (value : A) (events : List Event) (replies : List Reply) (after : Parts) (later : Wishes) (given : A) (log : Log) (left : Parts) (others : Wishes) : Type 0 where
+pub record IsEnd {A : Type 0} (value : A) (events : List Event) (replies : List Reply) (after : Parts) (later : Wishes)
+    (given : A) (log : Log) (left : Parts) (others : Wishes) : Type 0 where
   pub value_is : value ≡ given
   pub events_are : events ≡ log.events
   pub replies_are : replies ≡ log.answers
@@ -94,8 +95,11 @@ abbrev pub shown_beside : Option TargetAnswer → Option Status → Status
 shown_beside pic other = status_of pic (option_map answer_in other) (sets_beside other)
 
 -- the other target, by its own status, beside what the 8259A pin answered
-abbrev pub ShowsBeside : Place → Option TargetAnswer → Result (Option Status) Lacks → Parts → Wishes → OnParts (Option TargetAnswer) → Type 0
-ShowsBeside place pic (Ok other) after later o = EndsWith (option_map answer_in other) (events_at place (shown_beside pic other)) (replies_at place (shown_beside pic other)) after later o
+abbrev pub ShowsBeside :
+    Place → Option TargetAnswer → Result (Option Status) Lacks → Parts → Wishes → OnParts (Option TargetAnswer) → Type 0
+ShowsBeside place pic (Ok other) after later o =
+    EndsWith (option_map answer_in other) (events_at place (shown_beside pic other)) (replies_at place (shown_beside pic other))
+    after later o
 ShowsBeside place pic (Err l) after later o = StopsAt l.part o
 
 -- one target that is there

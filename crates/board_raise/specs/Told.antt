@@ -59,7 +59,8 @@ IsOfMessage (Ignored cause) = Unit {0}
 IsOfMessage Lowered = ⊥
 
 -- the status tells what a plan gave; the parts are those that it left, and so are the wishes
-pub record IsTold (heading : Heading) (about : About) (status : Status) (after : Parts) (later : Wishes) (given : TargetAnswer) (log : Log) (left : Parts) (others : Wishes) : Type 0 where
+pub record IsTold (heading : Heading) (about : About) (status : Status) (after : Parts) (later : Wishes)
+    (given : TargetAnswer) (log : Log) (left : Parts) (others : Wishes) : Type 0 where
   pub answer : answer_in status ≡ given
   pub events : events_told about status ≡ log.events
   pub answers : answers_told about status ≡ log.answers

@@ -104,7 +104,8 @@ pub fn raise_pic(
     requires pin { IsTrue (is_below pin 16) }
     requires line { IsSource source }
     requires fits { PinsFit (chips_of parts.old) }
-    ensures does { (ws : Wishes) → DoesQuietly (option_map pic_answer) result (parts_of parts.new) ws (run_on (raise_pic pin source) (parts_of parts.old) ws) }
+    ensures does { (ws : Wishes) →
+        DoesQuietly (option_map pic_answer) result (parts_of parts.new) ws (run_on (raise_pic pin source) (parts_of parts.old) ws) }
     ensures kept { OnlyPinsChange parts.old parts.new }
     ensures fits { PinsFit (chips_of parts.new) }
 {
@@ -122,7 +123,8 @@ pub fn raise_ioapic(parts: &mut Parts, pin: u8, source: Source) -> Result<Raise,
     requires pin { pin < 24 }
     requires line { IsSource source }
     requires fits { PinsFit (chips_of parts.old) }
-    ensures does { (ws : Wishes) → DoesQuietly (λ answer. answer) result (parts_of parts.new) ws (run_on (raise_ioapic pin source) (parts_of parts.old) ws) }
+    ensures does { (ws : Wishes) →
+        DoesQuietly (λ answer. answer) result (parts_of parts.new) ws (run_on (raise_ioapic pin source) (parts_of parts.old) ws) }
     ensures kept { OnlyPinsChange parts.old parts.new }
     ensures fits { PinsFit (chips_of parts.new) }
 {
@@ -216,7 +218,8 @@ pub fn let_go_after(parts: &mut Parts, targets: &Targets, source: Source) -> Res
     requires ioapic { IsTrue (is_below targets.now.ioapic 24) }
     requires line { IsSource source }
     requires fits { PinsFit (chips_of parts.old) }
-    ensures does { (ws : Wishes) → Leaves result (parts_of parts.new) ws (run_on (let_go_after targets.now source) (parts_of parts.old) ws) }
+    ensures does { (ws : Wishes) →
+        Leaves result (parts_of parts.new) ws (run_on (let_go_after targets.now source) (parts_of parts.old) ws) }
     ensures kept { OnlyPinsChange parts.old parts.new }
     ensures fits { PinsFit (chips_of parts.new) }
 {

@@ -69,7 +69,9 @@ pub fn send<R: Rig>(
 ) -> Result<Status, Lacks>
     requires few_cpus { cpus ≤ 64 }
     requires places { length (R.held rig.old).lapics ≡ cpus }
-    ensures does { (about : About) → Tells (heading_of message.now from) about result (parts_of (R.held rig.new)) (R.wishes rig.new) (run_on (send cpus message.now from about) (parts_of (R.held rig.old)) (R.wishes rig.old)) }
+    ensures does { (about : About) →
+        Tells (heading_of message.now from) about result (parts_of (R.held rig.new)) (R.wishes rig.new)
+        (run_on (send cpus message.now from about) (parts_of (R.held rig.old)) (R.wishes rig.old)) }
     ensures lacks { IfErr result (λ l. LacksReached l.part (parts_of (R.held rig.old)) (of_message message.now from cpus)) }
     ensures reached { IfOk result (λ _. HoldsReached (parts_of (R.held rig.old)) (of_message message.now from cpus)) }
     ensures status { IfOk result IsOfMessage }

@@ -60,9 +60,11 @@ pub fn name_processors(
 ) -> Result<Named, Lacks>
     requires few_cpus { cpus ≤ 64 }
     requires places { length row.now ≡ cpus }
-    ensures lacking { MatchResult result (λ _. first_missing row.now (reached_by message.now from cpus) ≡ None) (λ l. option_map Lapic (first_missing row.now (reached_by message.now from cpus)) ≡ Some l.part) }
+    ensures lacking { MatchResult result (λ _. first_missing row.now (reached_by message.now from cpus) ≡ None)
+        (λ l. option_map Lapic (first_missing row.now (reached_by message.now from cpus)) ≡ Some l.part) }
     ensures named { IfOk result (λ n. n.all ≡ numbers_of (named_in row.now (reached_by message.now from cpus) message.now from)) }
-    ensures lowest { IfOk result (λ n. n.lowest ≡ numbers_of (lowest_of (named_in row.now (reached_by message.now from cpus) message.now from))) }
+    ensures lowest { IfOk result
+        (λ n. n.lowest ≡ numbers_of (lowest_of (named_in row.now (reached_by message.now from cpus) message.now from))) }
 {
     let reach = reach_of(message, from, cpus);
     match first_lacking(row, reach) {
@@ -110,7 +112,8 @@ pub fn deliver(
     requires named { named.now.all ≡ numbers_of (named_in row.old (reached_by message.now from cpus) message.now from) }
     requires lowest { named.now.lowest ≡ numbers_of (lowest_of (named_in row.old (reached_by message.now from cpus) message.now from)) }
     ensures sent { sent_of result ≡ sent_in row.old (reached_by message.now from cpus) message.now from wish.now }
-    ensures row { row.new ≡ accepted_by message.now (reached (sent_in row.old (reached_by message.now from cpus) message.now from wish.now)) (reached_by message.now from cpus) row.old }
+    ensures row { row.new ≡ accepted_by message.now (reached (sent_in row.old (reached_by message.now from cpus) message.now from wish.now))
+        (reached_by message.now from cpus) row.old }
 {
     let reach = reach_of(message, from, cpus);
     let takers = chosen(message.mode, named, wish);
@@ -272,7 +275,8 @@ fn alone(n: u16) -> CpuSet
 // The chosen ones of the named processors: one of those with the least priority for a message sent to the lowest, else all.
 fn chosen(mode: Mode, named: &Named, wish: &CpuSet) -> CpuSet
     requires { (k : ℕ) → IsTrue (set.contains named.now.lowest k) → k < 64 }
-    ensures { (ps : List Processor) → Ascends ps → named.now.all ≡ numbers_of ps → named.now.lowest ≡ numbers_of (lowest_of ps) → result ≡ numbers_of (chosen_of mode wish.now ps) }
+    ensures { (ps : List Processor) → Ascends ps → named.now.all ≡ numbers_of ps → named.now.lowest ≡ numbers_of (lowest_of ps) →
+        result ≡ numbers_of (chosen_of mode wish.now ps) }
 {
     if goes_to_lowest(mode) {
         preferred(&named.lowest, wish)
@@ -324,7 +328,8 @@ fn accept_each(row: &mut LapicRow, reach: Reach, message: &Message, takers: &Cpu
     requires places { reach.end ≤ length row.old }
     requires few { reach.end ≤ 64 }
     requires taken { IsTrue (is_taken message.now.mode) }
-    ensures reached { result ≡ reached_after message.now takers.now (numbers_between reach.first reach.end) row.old (record { new = set.empty; stood = set.empty }) }
+    ensures reached { result ≡ reached_after message.now takers.now (numbers_between reach.first reach.end) row.old
+        (record { new = set.empty; stood = set.empty }) }
     ensures row { row.new ≡ accepted_by message.now takers.now (numbers_between reach.first reach.end) row.old }
 {
     let mut reached = Reached {

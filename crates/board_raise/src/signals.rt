@@ -47,7 +47,9 @@ pub fn raise_gsi<R: Rig>(
     requires pins { PinsFit (chips_of (R.held rig.old)) }
     requires route { IsTrue (is_route targets.now) }
     requires line { IsSource source }
-    ensures does { (place : Place) → Shows place result (parts_of (R.held rig.new)) (R.wishes rig.new) (run_on (raise cpus targets.now source (about_at place)) (parts_of (R.held rig.old)) (R.wishes rig.old)) }
+    ensures does { (place : Place) →
+        Shows place result (parts_of (R.held rig.new)) (R.wishes rig.new)
+        (run_on (raise cpus targets.now source (about_at place)) (parts_of (R.held rig.old)) (R.wishes rig.old)) }
     ensures lacks { IfErr result (λ l. IsNeeded l.part (parts_of (R.held rig.old)) (λ b. of_raise b targets.now cpus)) }
     ensures reached { IfOk result (λ _. HoldsNeeded (parts_of (R.held rig.old)) (λ b. of_raise b targets.now cpus)) }
     ensures kept { OnlySignalled (R.held rig.old) (R.held rig.new) }
@@ -77,7 +79,8 @@ pub fn lower_gsi<R: Rig>(rig: &mut R, targets: &Targets, source: Source) -> Resu
     requires pins { PinsFit (chips_of (R.held rig.old)) }
     requires route { IsTrue (is_route targets.now) }
     requires line { IsSource source }
-    ensures does { Leaves result (parts_of (R.held rig.new)) (R.wishes rig.new) (run_on (let_go targets.now source) (parts_of (R.held rig.old)) (R.wishes rig.old)) }
+    ensures does { Leaves result (parts_of (R.held rig.new)) (R.wishes rig.new)
+        (run_on (let_go targets.now source) (parts_of (R.held rig.old)) (R.wishes rig.old)) }
     ensures status { IfOk result (λ status. status ≡ lowered_status targets.now.pic targets.now.ioapic targets.now.msi) }
     ensures lacks { IfErr result (λ l. IsNeeded l.part (parts_of (R.held rig.old)) (λ _. of_fall targets.now)) }
     ensures reached { IfOk result (λ _. HoldsNeeded (parts_of (R.held rig.old)) (λ _. of_fall targets.now)) }
@@ -108,7 +111,9 @@ pub fn inject<R: Rig>(
     requires pins { PinsFit (chips_of (R.held rig.old)) }
     requires route { IsTrue (is_route targets.now) }
     requires line { IsSource source }
-    ensures does { (place : Place) → Shows place result (parts_of (R.held rig.new)) (R.wishes rig.new) (run_on (inject cpus targets.now source (about_at place)) (parts_of (R.held rig.old)) (R.wishes rig.old)) }
+    ensures does { (place : Place) →
+        Shows place result (parts_of (R.held rig.new)) (R.wishes rig.new)
+        (run_on (inject cpus targets.now source (about_at place)) (parts_of (R.held rig.old)) (R.wishes rig.old)) }
     ensures lacks { IfErr result (λ l. IsNeeded l.part (parts_of (R.held rig.old)) (λ b. of_raise b targets.now cpus)) }
     ensures reached { IfOk result (λ _. HoldsNeeded (parts_of (R.held rig.old)) (λ b. of_raise b targets.now cpus)) }
     ensures kept { OnlySignalled (R.held rig.old) (R.held rig.new) }
@@ -141,7 +146,9 @@ pub fn send_of_pin<R: Rig>(
     requires places { length (R.held rig.old).lapics ≡ cpus }
     requires pins { PinsFit (chips_of (R.held rig.old)) }
     requires pin { pin < 24 }
-    ensures does { (about : About) → ShowsSent about result (parts_of (R.held rig.new)) (R.wishes rig.new) (run_on (send_of_pin cpus pin message.now about) (parts_of (R.held rig.old)) (R.wishes rig.old)) }
+    ensures does { (about : About) →
+        ShowsSent about result (parts_of (R.held rig.new)) (R.wishes rig.new)
+        (run_on (send_of_pin cpus pin message.now about) (parts_of (R.held rig.old)) (R.wishes rig.old)) }
     ensures status { IfOk result IsOfMessage }
     ensures kept { OnlySignalled (R.held rig.old) (R.held rig.new) }
     ensures pins { PinsFit (chips_of (R.held rig.new)) }
@@ -167,7 +174,9 @@ fn raise_pin<R: Rig>(rig: &mut R, cpus: u16, pin: u8, source: Source) -> Result<
     requires pins { PinsFit (chips_of (R.held rig.old)) }
     requires pin { pin < 24 }
     requires line { IsSource source }
-    ensures does { (msi : Maybe Word) (place : Place) (pic : Maybe TargetAnswer) → ShowsBeside place pic (as_other result) (parts_of (R.held rig.new)) (R.wishes rig.new) (run_on (raise_other cpus (Some pin) msi source (about_at place pic)) (parts_of (R.held rig.old)) (R.wishes rig.old)) }
+    ensures does { (msi : Maybe Word) (place : Place) (pic : Maybe TargetAnswer) →
+        ShowsBeside place pic (as_other result) (parts_of (R.held rig.new)) (R.wishes rig.new)
+        (run_on (raise_other cpus (Some pin) msi source (about_at place pic)) (parts_of (R.held rig.old)) (R.wishes rig.old)) }
     ensures kept { OnlySignalled (R.held rig.old) (R.held rig.new) }
     ensures pins { PinsFit (chips_of (R.held rig.new)) }
     ensures published { R.published rig.new ≡ R.published rig.old }
@@ -200,7 +209,10 @@ fn raise_other<R: Rig>(
     requires pins { PinsFit (chips_of (R.held rig.old)) }
     requires route { IsTrue (is_route targets.now) }
     requires line { IsSource source }
-    ensures does { (place : Place) (pic : Maybe TargetAnswer) → ShowsBeside place pic result (parts_of (R.held rig.new)) (R.wishes rig.new) (run_on (raise_other cpus targets.now.ioapic targets.now.msi source (about_at place pic)) (parts_of (R.held rig.old)) (R.wishes rig.old)) }
+    ensures does { (place : Place) (pic : Maybe TargetAnswer) →
+        ShowsBeside place pic result (parts_of (R.held rig.new)) (R.wishes rig.new)
+        (run_on (raise_other cpus targets.now.ioapic targets.now.msi source (about_at place pic)) (parts_of (R.held rig.old))
+        (R.wishes rig.old)) }
     ensures kept { OnlySignalled (R.held rig.old) (R.held rig.new) }
     ensures pins { PinsFit (chips_of (R.held rig.new)) }
     ensures published { R.published rig.new ≡ R.published rig.old }

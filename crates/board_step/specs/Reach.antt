@@ -58,7 +58,8 @@ module _ (of_acks : Routing → Shape → Board → List Pin → Part → Bool) 
 
   -- whether an irqfd that is made injects: it is not refused, and its trigger has a count
   abbrev pub does_inject : Board → ℕ → Option ℕ → Bool
-  does_inject b trigger resample = not (is_some (first_of (assign_reasons b.registry trigger resample))) && nat_lt 0 (slice_index b.counters trigger)
+  does_inject b trigger resample =
+      not (is_some (first_of (assign_reasons b.registry trigger resample))) && nat_lt 0 (slice_index b.counters trigger)
 
   -- whether with this row, if there is one, the last resampler of its GSI leaves
   abbrev pub does_release : List Irqfd → ℕ → ℕ → Option Irqfd → Bool
@@ -97,8 +98,10 @@ module _ (of_acks : Routing → Shape → Board → List Pin → Part → Bool) 
   -- a store, by whose address it is
   abbrev pub of_store : Board → ℕ → ℕ → ℕ → ℕ → Part → Bool
   of_store b n address len value q =
-      if is_ioapic_address address then is_same Ioapic q || (nat_eq len 4 && of_written b.ioapic (write_to (ioapic_of b.ioapic) (address - 0xfec00000) value) q)
-      else if is_lapic_address address then is_same (Lapic n) q || (nat_eq len 4 && of_effect b n (store_effect (part_of b (Lapic n)) (address - 0xfee00000) value) q)
+      if is_ioapic_address address then is_same Ioapic q ||
+      (nat_eq len 4 && of_written b.ioapic (write_to (ioapic_of b.ioapic) (address - 0xfec00000) value) q)
+      else if is_lapic_address address then is_same (Lapic n) q ||
+      (nat_eq len 4 && of_effect b n (store_effect (part_of b (Lapic n)) (address - 0xfee00000) value) q)
       else of_ring b spaces.Memory address len value q
 
   -- a load, by whose address it is
@@ -116,7 +119,9 @@ module _ (of_acks : Routing → Shape → Board → List Pin → Part → Bool) 
 
   -- the processor's local APIC; and the pair, where no NMI is pending and LINT0 of processor 0 lets it through
   abbrev pub of_ack : Board → ℕ → LocalApic → Part → Bool
-  of_ack b n apic q = is_same (Lapic n) q || ((not apic.nmi && hears_pair n apic) && (is_same Pic q || (has_output (pair_of b.pic) && of_cycle b q)))
+  of_ack b n apic q =
+      is_same (Lapic n) q ||
+      ((not apic.nmi && hears_pair n apic) && (is_same Pic q || (has_output (pair_of b.pic) && of_cycle b q)))
 
   -- ---- the table
 
@@ -127,9 +132,11 @@ module _ (of_acks : Routing → Shape → Board → List Pin → Part → Bool) 
   of_call b n (calls.Msi address payload) q = of_message (message_in address payload) None shape.cpus q
   of_call b n (calls.Write counter count) q = of_write b (routing.trigger counter) count q
   of_call b n (calls.Take counter) q = is_same Counters q
-  of_call b n (calls.Assign trigger gsi resample) q = is_same Registry q || (is_same Counters q || (does_inject b trigger resample && of_gsi routing shape b gsi q))
+  of_call b n (calls.Assign trigger gsi resample) q =
+      is_same Registry q || (is_same Counters q || (does_inject b trigger resample && of_gsi routing shape b gsi q))
   of_call b n (calls.Deassign trigger gsi) q =
-      is_same Registry q || (does_release b.registry.irqfds trigger gsi (named_row b.registry.irqfds trigger gsi) && of_fall (routing.targets gsi) q)
+      is_same Registry q ||
+      (does_release b.registry.irqfds trigger gsi (named_row b.registry.irqfds trigger gsi) && of_fall (routing.targets gsi) q)
   of_call b n (calls.Reroute rows) q = is_same Registry q || (is_same Pic q || is_same Ioapic q)
   of_call b n (calls.Attach space address len counter want) q = is_same Registry q
   of_call b n (calls.Detach space address len counter want) q = is_same Registry q

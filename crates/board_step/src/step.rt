@@ -47,8 +47,12 @@ pub fn step_on<R: Rig>(
 ) -> Result<Reply, Lacks>
     requires allowed { is_allowed caller call.now shape.now ≡ true }
     requires fits { FitsShape shape.now (R.held rig.old) }
-    ensures leads { R.astray rig.new ≡ false → BodyLeads shape.now (R.published rig.old) (parts_of (R.held rig.old)) caller call.now result events.old.items events.new.items (parts_of (R.held rig.new)) }
-    ensures does { R.astray rig.new ≡ false → TellsOn (λ reply. reply ∷ []) result events.old.items events.new.items (parts_of (R.held rig.new)) (R.wishes rig.new) (run_on (plan_by (R.published rig.old) shape.now caller call.now) (parts_of (R.held rig.old)) (R.wishes rig.old)) }
+    ensures leads { R.astray rig.new ≡ false →
+        BodyLeads shape.now (R.published rig.old) (parts_of (R.held rig.old)) caller call.now result events.old.items
+        events.new.items (parts_of (R.held rig.new)) }
+    ensures does { R.astray rig.new ≡ false →
+        TellsOn (λ reply. reply ∷ []) result events.old.items events.new.items (parts_of (R.held rig.new)) (R.wishes rig.new)
+        (run_on (plan_by (R.published rig.old) shape.now caller call.now) (parts_of (R.held rig.old)) (R.wishes rig.old)) }
     ensures missing { IsMissing result (R.held rig.old) }
     ensures held { SameInHand (R.held rig.old) (R.held rig.new) }
     ensures fits { FitsButTick shape.now (R.held rig.new) }
@@ -73,7 +77,10 @@ fn call_in_range<R: Rig>(
     requires allowed { is_allowed caller call.now shape.now ≡ true }
     requires range { first_of (range_reasons shape.now call.now) ≡ None }
     requires fits { FitsShape shape.now (R.held rig.old) }
-    ensures does { R.astray rig.new ≡ false → TellsOn (λ reply. reply ∷ []) result events.old.items events.new.items (parts_of (R.held rig.new)) (R.wishes rig.new) (run_on (plan_in_range (routing_of_words (R.published rig.old)) shape.now (number_of caller) call.now) (parts_of (R.held rig.old)) (R.wishes rig.old)) }
+    ensures does { R.astray rig.new ≡ false →
+        TellsOn (λ reply. reply ∷ []) result events.old.items events.new.items (parts_of (R.held rig.new)) (R.wishes rig.new)
+        (run_on (plan_in_range (routing_of_words (R.published rig.old)) shape.now (number_of caller) call.now)
+        (parts_of (R.held rig.old)) (R.wishes rig.old)) }
     ensures missing { IsMissing result (R.held rig.old) }
     ensures held { SameInHand (R.held rig.old) (R.held rig.new) }
     ensures fits { FitsButTick shape.now (R.held rig.new) }
