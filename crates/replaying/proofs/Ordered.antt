@@ -10,8 +10,11 @@ use Rattle.script_text.specs.declared.task.ActorLine.{ActorLine}
 use Rattle.script_text.specs.Asks.{Asks, no_more, same_caller, next_call, line_asks, unrolled, tasks_of, asks_after}
 use Rattle.script_text.specs.Scripts.{Script}
 use Rattle.board_model.specs.Board.{Board}
-use Rattle.board_step.specs.History.{opening, Leads}
+use Rattle.board_step.specs.Applied.{is_reached}
+use Rattle.board_step.specs.History.{opening, board_after, Leads}
 use Rattle.board_step.specs.Step.{spent_of}
+use Rattle.board_step.proofs.Faces.{spent_reached}
+use Rattle.board_step.proofs.Following.{board_after_is_reached}
 use Rattle.replaying.specs.declared.stops.Stop.{Stop}
 use Rattle.replaying.specs.FileOrder.{stop_of, with_stop, Leaves, LineAsked, PassedOver, LinesAsked, first_stop}
 use Rattle.script_histories.specs.Merging.{replies_of, next_of, Merges, IsWhole, AreBarred, EndsWell}
@@ -19,7 +22,7 @@ use Rattle.script_histories.proofs.Callers.{callers_same, caller_itself}
 use Rattle.script_histories.proofs.Asking.{tasks_nothing, tasks_of_line, unrolled_nothing, unrolled_line, lineless_ask_nothing}
 use Rattle.script_histories.proofs.Merged.{no_replies, merges_append, leads_append}
 use Rattle.replaying.specs.Replays.{Replays}
-use Rattle.replaying.proofs.Barred.{stays_barred}
+use Rattle.replaying.proofs.Barred.{stays_barred, stays_reached}
 use Rattle.replaying.proofs.Merged.{after, in_turn, others_stay}
 
 some_none : {A : Type 0} (x : A) → Some x ≡ None → ⊥
@@ -28,10 +31,11 @@ some_none x e = cc
 same_some : {A : Type 0} (x y : A) → Some x ≡ Some y → x ≡ y
 same_some x y e = cc
 
--- where a caller stands: it asks what its later lines ask; or a limit stopped it, and bars its next call
+-- where a caller stands: it asks what its later lines ask; or a limit stopped it, and bars its next call, and that limit is reached
 abbrev Stands : Option Spent → Asks → Asks → Board → Type 0
 Stands None now behind b = now ≡ behind
-Stands (Some spent) now behind b = (call : Call) × (next_call now ≡ Some call) × (is_some (spent_of b call) ≡ true)
+Stands (Some spent) now behind b =
+    (call : Call) × (next_call now ≡ Some call) × (is_some (spent_of b call) ≡ true) × (is_reached b (Some spent) ≡ true)
 
 -- a line of another is passed by
 behind_same : (who : Caller) (line : ActorLine) (lines : List ActorLine) → same_caller line.caller who ≡ false → unrolled (tasks_of who (line ∷ lines)) ≡ unrolled (tasks_of who lines)
@@ -82,7 +86,7 @@ module _ (s : Script) where
     own_stands (Some spent) (call, next, barred) =
         subst (λ o. Stands o (after s line.caller (before ++ mine)) behind mid)
         (sym (ap (λ (t : Bool). if t then Some spent else stop_of line.caller had) (caller_itself line.caller)))
-        (call, ap next_call turned.1 ∙ next, ap is_some barred)
+        (call, ap next_call turned.1 ∙ next, ap is_some barred, spent_reached mid call spent barred)
 
     -- another
     with_others : (who : Caller) (stop : Option Spent) → same_caller line.caller who ≡ false → stop_of who (with_stop line.caller stop had) ≡ stop_of who had
@@ -91,7 +95,8 @@ module _ (s : Script) where
 
     moved : (o : Option Spent) (now a : Asks) → Stands o now a b → Stands o now a mid
     moved None now a s = s
-    moved (Some spent) now a (call, next, barred) = (call, next, stays_barred b call mine mid taken.leads barred)
+    moved (Some spent) now a (call, next, barred, is) =
+        (call, next, stays_barred b call mine mid taken.leads barred, stays_reached b (Some spent) mine mid taken.leads is)
 
     others_stand : (who : Caller) → same_caller line.caller who ≡ false → Stands (stop_of who (with_stop line.caller stop had)) (after s who (before ++ mine)) (unrolled (tasks_of who lines)) mid
     others_stand who apart =
@@ -179,27 +184,39 @@ module _ (s : Script) (history : List Entry) (c : Board) (has : List Stop) (aske
     where
       by : (o : Option Spent) → stop_of who has ≡ o → Stands o (after s who history) (unrolled (tasks_of who [])) c → next_call (after s who history) ≡ None
       by None free now = ap next_call (now ∙ over who)
-      by (Some spent) stopped (call, next, barred) = absurd (some_none call (sym next ∙ lineless_ask_nothing who s.lines (replies_of who history) (none_has_lines s.lines has who spent none stopped)))
+      by (Some spent) stopped (call, next, barred, last) = absurd (some_none call (sym next ∙ lineless_ask_nothing who s.lines (replies_of who history) (none_has_lines s.lines has who spent none stopped)))
 
   barred_next : (who : Caller) (call : Call) → next_of s history who ≡ Some call → is_some (spent_of c call) ≡ true
   barred_next who call asks = by (stop_of who has) (made.stand who)
     where
       by : (o : Option Spent) → Stands o (after s who history) (unrolled (tasks_of who [])) c → is_some (spent_of c call) ≡ true
       by None now = absurd (some_none call (sym asks ∙ ap next_call (now ∙ over who)))
-      by (Some spent) (own, next, barred) = (λ i. is_some (spent_of c (same_some call own (sym asks ∙ next) i))) ∙ barred
+      by (Some spent) (own, next, barred, last) = (λ i. is_some (spent_of c (same_some call own (sym asks ∙ next) i))) ∙ barred
 
   spent_rightly : (limit : Spent) → first_stop s.lines has ≡ Some limit → AreBarred s history c
   spent_rightly limit is =
       let (who, stopped) = first_is_a_stop s.lines has limit is in
-      let (call, next, barred) = subst (λ o. Stands o (after s who history) (unrolled (tasks_of who [])) c) stopped (made.stand who) in
+      let (call, next, barred, last) = subst (λ o. Stands o (after s who history) (unrolled (tasks_of who [])) c) stopped (made.stand who) in
       record { who = who; left = ap is_some next; barred = barred_next }
 
   ends : (o : Option Spent) → first_stop s.lines has ≡ o → EndsWell s history c (is_some o)
   ends None none = whole none
   ends (Some limit) is = spent_rightly limit is
 
+  reached : board_after (opening s.shape) history ≡ c
+  reached = board_after_is_reached (opening s.shape) history c made.leads
+
+  -- the limit that is told is reached
+  limit_reached : (o : Option Spent) → first_stop s.lines has ≡ o → is_reached (board_after (opening s.shape) history) o ≡ true
+  limit_reached None none = refl
+  limit_reached (Some limit) is =
+      let (who, stopped) = first_is_a_stop s.lines has limit is in
+      let (call, next, barred, last) = subst (λ o. Stands o (after s who history) (unrolled (tasks_of who [])) c) stopped (made.stand who) in
+      (λ i. is_reached (reached i) (Some limit)) ∙ last
+
   pub replays : Replays s history (first_stop s.lines has)
   replays = record {
     fits = record { board = c; stand = record { merge = made.merges; legal = made.leads }; ends = ends (first_stop s.lines has) refl };
     order = record { last = c; stops = has; lines = asked; first = refl };
+    reached = limit_reached (first_stop s.lines has) refl;
   }
