@@ -184,14 +184,14 @@ module _ (s : Script) (history : List Entry) (c : Board) (has : List Stop) (aske
     where
       by : (o : Option Spent) → stop_of who has ≡ o → Stands o (after s who history) (unrolled (tasks_of who [])) c → next_call (after s who history) ≡ None
       by None free now = ap next_call (now ∙ over who)
-      by (Some spent) stopped (call, next, barred, is) = absurd (some_none call (sym next ∙ lineless_ask_nothing who s.lines (replies_of who history) (none_has_lines s.lines has who spent none stopped)))
+      by (Some spent) stopped (call, next, barred, last) = absurd (some_none call (sym next ∙ lineless_ask_nothing who s.lines (replies_of who history) (none_has_lines s.lines has who spent none stopped)))
 
   barred_next : (who : Caller) (call : Call) → next_of s history who ≡ Some call → is_some (spent_of c call) ≡ true
   barred_next who call asks = by (stop_of who has) (made.stand who)
     where
       by : (o : Option Spent) → Stands o (after s who history) (unrolled (tasks_of who [])) c → is_some (spent_of c call) ≡ true
       by None now = absurd (some_none call (sym asks ∙ ap next_call (now ∙ over who)))
-      by (Some spent) (own, next, barred, is) = (λ i. is_some (spent_of c (same_some call own (sym asks ∙ next) i))) ∙ barred
+      by (Some spent) (own, next, barred, last) = (λ i. is_some (spent_of c (same_some call own (sym asks ∙ next) i))) ∙ barred
 
   spent_rightly : (limit : Spent) → first_stop s.lines has ≡ Some limit → AreBarred s history c
   spent_rightly limit is =

@@ -1,16 +1,17 @@
 //! Calls asked of a board, and their entries.
-ghost use Rattle.std.specs.Prelude.{◌≡◌, [], true, IfOk};
+ghost use Rattle.std.specs.Prelude.{◌≡◌, [], ◌∷◌, ◌++◌, true, IfOk};
 ghost use Rattle.irq_base.specs.Callers.{is_allowed};
 ghost use Rattle.irq_base.specs.declared.call.Call.TheVariants as calls;
 ghost use Rattle.script_text.specs.Asks.{Asks, ask, no_more, once, times, rounds, to_slave, after_ack, line_asks};
 ghost use Rattle.script_text.specs.Scripts.{may_ask};
 ghost use Rattle.script_text.specs.Fitting.{IsHeader};
+ghost use Rattle.board_step.specs.Bodies.{entry_of};
 ghost use Rattle.board_step.specs.History.{opening};
 ghost use Rattle.replaying.specs.Played.{Answered, Played};
 
 use crate::copies::{call_of, list_of};
 use board_step::{Board, OpenError};
-use irq_base::{Call, Caller, Entry, Events, History, NoMemory, Reply, Shape, Spent};
+use irq_base::{Call, Caller, Entry, Event, Events, History, NoMemory, Reply, Shape, Spent};
 use script_text::{ActorLine, Task};
 use std::alloc::Global;
 
@@ -31,6 +32,26 @@ fn end_at(port: u16) -> Call
         len: 1,
         value: 0x20,
     }
+}
+
+// Puts the entry of a call that was answered behind the others.
+fn keep(
+    history: &mut History,
+    alloc: Global,
+    caller: Caller,
+    call: &Call,
+    reply: Reply,
+    events: &[Event],
+) -> Result<(), NoMemory>
+    ensures { IfOk result (λ _. history.new ≡ history.old ++ entry_of caller call.now reply events.now ∷ []) }
+{
+    let entry = Entry {
+        caller,
+        call: call_of(alloc, call)?,
+        reply,
+        events: list_of(alloc, events)?,
+    };
+    history.push(entry)
 }
 
 impl Player {
@@ -68,13 +89,14 @@ impl Player {
         match self.board.apply(caller, call, &mut self.events) {
             Err(spent) => Ok(Err(spent)),
             Ok(done) => {
-                let entry = Entry {
+                keep(
+                    &mut self.history,
+                    alloc,
                     caller,
-                    call: call_of(alloc, call)?,
-                    reply: done.reply,
-                    events: list_of(alloc, self.events.as_slice())?,
-                };
-                self.history.push(entry)?;
+                    call,
+                    done.reply,
+                    self.events.as_slice(),
+                )?;
                 Ok(Ok(done.reply))
             }
         }

@@ -22,7 +22,7 @@ pub struct Run {
 fn first_stop(script: &Script, stops: &[Stop]) -> Option<Spent>
     ensures { result ≡ first_stop script.now.lines stops.now }
 {
-    'lines: for k in 0..script.lines() {
+    'actors: for k in 0..script.lines() {
         if let Some(spent) = stop_of(script.line(k).caller, stops) {
             return Some(spent);
         }

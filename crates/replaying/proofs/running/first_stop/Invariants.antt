@@ -3,5 +3,5 @@ use Rattle.replaying.specs.FileOrder.{first_stop}
 use Rattle.replaying.proofs.running.first_stop.Given as goal
 
 -- the actors of the lines so far were not stopped
-abbrev pub invariant-lines : goal.invariant-lines
-invariant-lines l = first_stop (drop l.k l.script.lines) l.stops ≡ first_stop l.script.lines l.stops
+abbrev pub invariant-actors : goal.invariant-actors
+invariant-actors l = first_stop (drop l.k l.script.lines) l.stops ≡ first_stop l.script.lines l.stops
