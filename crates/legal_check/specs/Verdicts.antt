@@ -2,7 +2,7 @@
 use Rattle.std.specs.Prelude.{◌≡◌, ℕ, take, length, slice_get, Some}
 use Rattle.irq_base.specs.declared.lists.Entry.{Entry}
 use Rattle.board_model.specs.Board.{Board}
-use Rattle.board_step.specs.Step.{Step}
+use Rattle.board_step.specs.Applied.{LeadsOn}
 use Rattle.script_text.specs.Scripts.{Script}
 use Rattle.transcript.specs.declared.transcript.Transcript.{Transcript}
 use Rattle.legal_check.specs.declared.verdict.Flaw.{Flaw}
@@ -10,10 +10,6 @@ use Rattle.legal_check.specs.declared.verdict.Flaw.TheVariants.{Asked, Reply, En
 use Rattle.legal_check.specs.declared.verdict.Verdict.{Verdict}
 use Rattle.legal_check.specs.declared.verdict.Verdict.TheVariants.{Legal, NotAt}
 use Rattle.script_histories.specs.Merging.{IsAsked, Stand, EndsWell, Fits}
-
--- an entry is a step from the board: its call is within the limits, and the board may answer so
-abbrev pub IsStep : Board → Entry → Type 0
-IsStep b e = (next : Board) × Step b e next
 
 -- the entry at that place has a flaw, on the board before it; `asked` is tried first
 pub record NotAsked (s : Script) (run : Transcript) (place : ℕ) : Type 0 where
@@ -25,7 +21,7 @@ pub record NotAnswered (s : Script) (run : Transcript) (place : ℕ) (b : Board)
   pub entry : Entry
   pub there : slice_get run.history place ≡ Some entry
   pub asked : IsAsked s (take place run.history) entry
-  pub flaw : IsStep b entry → ⊥
+  pub flaw : LeadsOn b entry → ⊥
 
 -- the ending has a flaw
 pub record NotEnded (s : Script) (run : Transcript) (place : ℕ) (b : Board) : Type 0 where
