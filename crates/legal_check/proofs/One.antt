@@ -48,9 +48,9 @@ step-at b (x ∷ xs) (suc q) (suc p) e d below there (next, step, rest) c (later
 no-flaw-before : (s : Script) (run : Transcript) (p q : ℕ) (f : Flaw) (b : Board) → p < q → q ≤ length run.history → Stand s (take q run.history) b →
     FlawAt s run p f → ⊥
 no-flaw-before s run p q Asked b below within stand at =
-    at.has.flaw (asked-at s [] run.history q p at.has.entry below at.has.there stand.merge)
+    at.has.has (asked-at s [] run.history q p at.has.entry below at.has.there stand.merge)
 no-flaw-before s run p q Reply b below within stand at =
-    at.has.flaw (step-at (opening s.shape) run.history q p at.has.entry b below at.has.there stand.legal at.board at.before.legal)
+    at.has.has.1 (step-at (opening s.shape) run.history q p at.has.entry b below at.has.there stand.legal at.board at.before.legal)
 no-flaw-before s run p q Ending b below within stand at = let last = at.has.last in absurd (omega (arith, below, within, last))
 
 place-within : (s : Script) (run : Transcript) (p : ℕ) (f : Flaw) → FlawAt s run p f → p ≤ length run.history
@@ -61,7 +61,7 @@ place-within s run p Ending at = let last = at.has.last in omega (arith, last)
 not-both : (s : Script) (run : Transcript) (p : ℕ) → FlawAt s run p Asked → FlawAt s run p Reply → ⊥
 not-both s run p at by =
     let same = inner by.has.entry at.has.entry (sym by.has.there ∙ at.has.there) in
-    at.has.flaw (subst (λ (e : Entry). IsAsked s (take p run.history) e) same by.has.asked)
+    at.has.has (subst (λ (e : Entry). IsAsked s (take p run.history) e) same by.has.has.0)
 
 not-past : (h : List Entry) (p : ℕ) (e : Entry) → slice_get h p ≡ Some e → p ≡ length h → ⊥
 not-past h p e there last = let below = slice_get_within h p e there in omega (arith, below, last)
@@ -95,7 +95,7 @@ legal-has-none s run p f fits at = go f at
         subst (λ (es : List Entry). Leads (opening s.shape) es at.board) (whole run.history p over) at.before.legal in
         let same : fits.board ≡ at.board =
         sym (board_after_is_reached (opening s.shape) run.history fits.board fits.stand.legal) ∙ board_after_is_reached (opening s.shape) run.history at.board there in
-        at.has.flaw (subst (λ (b : Board). EndsWell s run.history b run.spent) same fits.ends)
+        at.has.wrong (subst (λ (b : Board). EndsWell s run.history b run.spent) same fits.ends)
 
 pub one-verdict : HasOneVerdict
 one-verdict s run Legal Legal v w = refl

@@ -13,8 +13,8 @@ use Rattle.legal_check.specs.declared.verdict.Flaw.{Flaw}
 use Rattle.legal_check.specs.declared.verdict.Flaw.TheVariants.{Asked, Reply, Ending}
 use Rattle.script_histories.specs.Merging.{Stand, EndsWell, Fits}
 use Rattle.script_histories.proofs.Merged.{merges_more, leads_more}
-use Rattle.legal_check.specs.Verdicts.{FlawAt}
-use Rattle.legal_check.specs.Standing.{HaveFollowed, HasFlaw, GoesOn}
+use Rattle.legal_check.specs.Verdicts.{HasFlaw, FlawAt}
+use Rattle.legal_check.specs.Standing.{HaveFollowed, GoesOn}
 
 -- entries without a flaw led to this board, and the actors followed them
 pub record Running (s : Script) (entries : List Entry) (b : Board) (ps : List Progress) : Type 0 where
@@ -39,8 +39,8 @@ goes frame s entries now b c ps qs e is run on = subst (λ (es : List Entry). Ru
 
 pub flawed : (s : Script) (run : Transcript) (place : ℕ) (b : Board) (ps : List Progress) (e : Entry) (flaw : Flaw) → slice_get run.history place ≡ Some e →
     Running s (take place run.history) b ps → HasFlaw s (take place run.history) b e flaw → FlawAt s run place flaw
-flawed s run place b ps e Asked there now has = record { board = b; before = now.stand; has = record { entry = e; there = there; flaw = has } }
-flawed s run place b ps e Reply there now has = record { board = b; before = now.stand; has = record { entry = e; there = there; asked = has.0; flaw = has.1 } }
+flawed s run place b ps e Asked there now has = record { board = b; before = now.stand; has = record { entry = e; there = there; has = has } }
+flawed s run place b ps e Reply there now has = record { board = b; before = now.stand; has = record { entry = e; there = there; has = has } }
 flawed s run place b ps e Ending there now has = absurd has
 
 pub whole : {A : Type 0} (xs : List A) (n : ℕ) → length xs ≤ n → take n xs ≡ xs
@@ -62,7 +62,7 @@ pub ends-badly : (s : Script) (run : Transcript) (m n : ℕ) (b : Board) (ps : L
 ends-badly s run m n b ps all over now bad = record {
   board = b;
   before = subst (λ (es : List Entry). Stand s es b) (whole run.history n over ∙ sym (whole run.history m (omega (arith, all)))) now.stand;
-  has = record { last = all; flaw = λ ends. bad (subst (λ (es : List Entry). EndsWell s es b run.spent) (sym (whole run.history n over)) ends) };
+  has = record { last = all; wrong = λ ends. bad (subst (λ (es : List Entry). EndsWell s es b run.spent) (sym (whole run.history n over)) ends) };
 }
 
 -- what is written back through a slice of the whole

@@ -3,13 +3,10 @@ use Rattle.std.specs.Prelude.{◌≡◌, ℕ, ◌<◌, List, [], ◌∷◌, ◌+
 use Rattle.irq_base.specs.declared.lists.Entry.{Entry}
 use Rattle.board_model.specs.Board.{Board}
 use Rattle.board_step.specs.Step.{Step}
-use Rattle.board_step.specs.Applied.{LeadsOn}
 use Rattle.script_text.specs.declared.progress.Phase.TheVariants.{Round}
 use Rattle.script_text.specs.declared.progress.Progress.{Progress}
 use Rattle.script_text.specs.Asks.{actors_of, caller_at, HasFollowed}
 use Rattle.script_text.specs.Scripts.{Script}
-use Rattle.legal_check.specs.declared.verdict.Flaw.{Flaw}
-use Rattle.legal_check.specs.declared.verdict.Flaw.TheVariants.{Asked, Reply, Ending}
 use Rattle.script_histories.specs.Merging.{replies_of, IsAsked}
 
 -- how many actors a script has
@@ -25,12 +22,6 @@ pub record HaveFollowed (s : Script) (before : List Entry) (ps : List Progress) 
   pub as_many : length ps ≡ actors_in s
   pub each : (a : ℕ) → a < actors_in s
       → HasFollowed (caller_at s.lines a) s.lines (replies_of (caller_at s.lines a) before) (progress_at ps a)
-
--- the flaw of an entry on a board, behind these entries
-abbrev pub HasFlaw : Script → List Entry → Board → Entry → Flaw → Type 0
-HasFlaw s before b e Asked = IsAsked s before e → ⊥
-HasFlaw s before b e Reply = IsAsked s before e × (LeadsOn b e → ⊥)
-HasFlaw s before b e Ending = ⊥
 
 -- an entry without a flaw leads to this board, and the actors follow it
 pub record GoesOn (s : Script) (before : List Entry) (b : Board) (e : Entry) (c : Board) (ps : List Progress) : Type 0 where

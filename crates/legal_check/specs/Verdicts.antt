@@ -1,5 +1,5 @@
 -- The verdict on a transcript: legal, or the first entry, or else the ending, that has a flaw (this board's own rule).
-use Rattle.std.specs.Prelude.{◌≡◌, ℕ, take, length, slice_get, Some}
+use Rattle.std.specs.Prelude.{◌≡◌, ℕ, List, take, length, slice_get, Some}
 use Rattle.irq_base.specs.declared.lists.Entry.{Entry}
 use Rattle.board_model.specs.Board.{Board}
 use Rattle.board_step.specs.Applied.{LeadsOn}
@@ -11,27 +11,27 @@ use Rattle.legal_check.specs.declared.verdict.Verdict.{Verdict}
 use Rattle.legal_check.specs.declared.verdict.Verdict.TheVariants.{Legal, NotAt}
 use Rattle.script_histories.specs.Merging.{IsAsked, Stand, EndsWell, Fits}
 
--- the entry at that place has a flaw, on the board before it; `asked` is tried first
-pub record NotAsked (s : Script) (run : Transcript) (place : ℕ) : Type 0 where
+-- an entry has this flaw on a board, behind these entries; `asked` is tried first
+abbrev pub HasFlaw : Script → List Entry → Board → Entry → Flaw → Type 0
+HasFlaw s before b e Asked = IsAsked s before e → ⊥
+HasFlaw s before b e Reply = IsAsked s before e × (LeadsOn b e → ⊥)
+HasFlaw s before b e Ending = ⊥
+
+-- the entry at that place has this flaw, on the board before it
+pub record EntryHas (s : Script) (run : Transcript) (place : ℕ) (b : Board) (flaw : Flaw) : Type 0 where
   pub entry : Entry
   pub there : slice_get run.history place ≡ Some entry
-  pub flaw : IsAsked s (take place run.history) entry → ⊥
+  pub has : HasFlaw s (take place run.history) b entry flaw
 
-pub record NotAnswered (s : Script) (run : Transcript) (place : ℕ) (b : Board) : Type 0 where
-  pub entry : Entry
-  pub there : slice_get run.history place ≡ Some entry
-  pub asked : IsAsked s (take place run.history) entry
-  pub flaw : LeadsOn b entry → ⊥
-
--- the ending has a flaw
-pub record NotEnded (s : Script) (run : Transcript) (place : ℕ) (b : Board) : Type 0 where
+-- that place is behind the last entry, and the ending is not right
+pub record EndingHas (s : Script) (run : Transcript) (place : ℕ) (b : Board) : Type 0 where
   pub last : place ≡ length run.history
-  pub flaw : EndsWell s run.history b run.spent → ⊥
+  pub wrong : EndsWell s run.history b run.spent → ⊥
 
 abbrev pub Has : Script → Transcript → ℕ → Board → Flaw → Type 0
-Has s run place b Asked = NotAsked s run place
-Has s run place b Reply = NotAnswered s run place b
-Has s run place b Ending = NotEnded s run place b
+Has s run place b Asked = EntryHas s run place b Asked
+Has s run place b Reply = EntryHas s run place b Reply
+Has s run place b Ending = EndingHas s run place b
 
 -- the entries before that place have no flaw, and the entry there, or the ending, has this one
 pub record FlawAt (s : Script) (run : Transcript) (place : ℕ) (flaw : Flaw) : Type 0 where

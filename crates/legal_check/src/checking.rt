@@ -5,8 +5,8 @@ ghost use Rattle.irq_base.specs.declared.lists.Entry.{Entry as AnyEntry};
 ghost use Rattle.board_step.specs.Applied.{LeadsOn};
 ghost use Rattle.board_step.specs.Step.{Step};
 ghost use Rattle.legal_check.specs.declared.verdict.Verdict.TheVariants as verdicts;
-ghost use Rattle.legal_check.specs.Standing.{actors_in, HaveFollowed, HasFlaw, GoesOn};
-ghost use Rattle.legal_check.specs.Verdicts.{IsVerdict};
+ghost use Rattle.legal_check.specs.Standing.{actors_in, HaveFollowed, GoesOn};
+ghost use Rattle.legal_check.specs.Verdicts.{HasFlaw, IsVerdict};
 
 use crate::actors::{asked, follow, started};
 use crate::ending::ends_well;

@@ -120,13 +120,15 @@ fn counted() -> &'static [u8] {
     2transcript 1\nend 0 0\n|2transcript 1\nend x 0\n"
 }
 
-// Another number of entries, or another place.
+// Another number of entries, another place, or another spelling.
 fn numbered() -> &'static [u8] {
     b"\
     2transcript 1\nend 1\n|2transcript 1\nend 00\n|2transcript 1\nspent 1\n|\
     2transcript 1\nend x\n|3transcript 1\n0 cpu0 ack -> nothing\n0 cpu0 ack -> nothing\n|\
     3transcript 1\n0 cpu0 ack -> nothing\nend 0\n|\
-    4transcript 1\n0 cpu0 ack -> nothing\n+ rang 1\n2 cpu0 ack -> nothing\n"
+    4transcript 1\n0 cpu0 ack -> nothing\n+ rang 1\n2 cpu0 ack -> nothing\n|\
+    2transcript 1\n1 cpu0 ack -> nothing\nend 1\n|\
+    2transcript 1\n0 cpu0 msi FEE00000 00000041 -> coalesced stood=1\nend 1\n"
 }
 
 // Texts of transcripts, parted by bars.
@@ -295,6 +297,6 @@ fn texts_have_a_first_bad_line(rt: HostRuntime) -> Result<(), Fail> {
     assert_eq!(rt; all_bad(alloc, ended(), LineCause::End), Some(7));
     assert_eq!(rt; all_bad(alloc, worded(), LineCause::Word), Some(11));
     assert_eq!(rt; all_bad(alloc, counted(), LineCause::Count), Some(6));
-    assert_eq!(rt; all_bad(alloc, numbered(), LineCause::Number), Some(7));
+    assert_eq!(rt; all_bad(alloc, numbered(), LineCause::Number), Some(9));
     Ok(())
 }
