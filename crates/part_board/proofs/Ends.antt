@@ -29,24 +29,12 @@ use Rattle.part_slots.specs.Running.{Opens, IsStep, caller_of}
 use Rattle.part_slots.specs.Slots.{slots_of}
 use Rattle.part_slots.proofs.Histories.{runs_are_legal, states_stand}
 use Rattle.part_board.specs.declared.closed.Closed.{Closed}
-use Rattle.part_board.specs.Gathering.{apics_in, gathered, none_but}
+use Rattle.part_copies.specs.Gathering.{apics_in, gathered, none_but}
 use Rattle.part_board.specs.Joining.{IsEnded}
-use Rattle.part_board.proofs.Boards.{AreAll, left_are, left_room, left_whole, left_fits, left_board}
+use Rattle.part_copies.proofs.Boards.{AreAll, left_are, left_room, left_whole, left_fits, left_board}
 
 some_is : {A : Type 0} (x y : A) → Some x ≡ Some y → x ≡ y
 some_is x y e = cc
-
--- ---- the words of the registry that is left
-
--- it names what there can be
-pub left_names : (o : Option RegistryPart) (tick : ℕ) → IsSoundRegistry (unwrap_or (option_map registry_of o) opening_registry) tick → IfSome o NamesWhatIsThere
-left_names None tick sound = tt
-left_names (Some r) tick sound = record { irqfds = sound.irqfds; watches = sound.watches }
-
--- the words that it publishes are those of its board
-pub left_words : (o : Option RegistryPart) (ws : List ℕ) (tick : ℕ) → is_some (option_map registry_of o) ≡ true → IfSome o (λ (r : RegistryPart). ws ≡ published (registry_of r) tick) → ws ≡ published (unwrap_or (option_map registry_of o) opening_registry) tick
-left_words None ws tick there is = absurd (true≢false (sym there))
-left_words (Some r) ws tick there is = is
 
 -- ---- the board that is left
 

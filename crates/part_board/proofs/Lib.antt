@@ -1,6 +1,4 @@
 pub mod Sets
-pub mod Rows
-pub mod Boards
 pub mod Learnt
 pub mod Joins
 pub mod Ends

@@ -12,8 +12,8 @@ use Rattle.board_step.specs.Publications.{words}
 use Rattle.board_step.proofs.SoundOpening.{apics_many}
 use Rattle.part_slots.specs.declared.slot.Slot.TheVariants as slots
 use Rattle.part_slots.specs.Slots.{slots_of}
-use Rattle.part_board.specs.Gathering.{slots_in}
-use Rattle.part_board.proofs.Boards.{slots_are}
+use Rattle.part_copies.specs.Gathering.{slots_in}
+use Rattle.part_copies.proofs.Boards.{slots_are}
 
 -- the board at power-on publishes 4,392 words
 pub words_many : (shape : Shape) → length (words (opening shape)) ≡ 4392

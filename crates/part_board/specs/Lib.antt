@@ -1,6 +1,5 @@
 pub mod Callers
 pub mod Made
-pub mod Gathering
 pub mod Seen
 pub mod Closing
 pub mod Joining

@@ -1,10 +1,6 @@
 //! A running board is closed.
 ghost use Rattle.std.specs.Prelude.{◌≡◌, All, false, IfOk, IfErr, MatchOption};
 ghost use Rattle.irq_base.specs.declared.call.Caller.{Caller as AnyCaller};
-ghost use Rattle.board_raise.specs.Fit.{Fits};
-ghost use Rattle.board_raise.specs.InHand.{parts_of, chips_of};
-ghost use Rattle.board_step.specs.Sound.{IsSound};
-ghost use Rattle.board_step.specs.Whole.{IsWhole, board_of};
 ghost use Rattle.turn_book.specs.Ending.{AllEnded};
 ghost use Rattle.part_board.specs.Callers.{IsFirst};
 ghost use Rattle.part_board.specs.Seen.{desk_view, IsDeskOf, IsPassOf};
@@ -17,10 +13,8 @@ use crate::desk::Desk;
 use crate::gathering::gather;
 use crate::live::LiveBoard;
 use crate::pass::Pass;
-use board_raise::{BoardRig, Parts, Words};
-use board_step::Board;
-use irq_base::{Caller, Shape};
-use turn_book::Front;
+use irq_base::Caller;
+use part_copies::restored;
 
 // The first caller whose pass was made and is none of the list.
 fn first_missing(desk: &Desk, passes: &[Pass]) -> Option<Caller>
@@ -34,19 +28,6 @@ fn first_missing(desk: &Desk, passes: &[Pass]) -> Option<Caller>
         left.remove(pass.caller);
     }
     left.first()
-}
-
-// The board of all parts that are left, after so many calls and so many publications.
-fn restored(shape: &Shape, parts: Parts, words: Words, front: Front) -> Board
-    requires whole { IsWhole shape.now (parts_of parts) }
-    requires fits { Fits shape.now (parts_of parts) (chips_of parts) }
-    requires sound { IsSound (board_of shape.now (parts_of parts) front.length front.generation) }
-    ensures { result ≡ board_of shape.now (parts_of parts) front.length front.generation }
-{
-    let mut rig = BoardRig::new(parts, words);
-    rig.publish(shape.tick);
-    let (parts, words) = rig.into_parts();
-    Board::of_parts(shape, parts, words, front.length, front.generation)
 }
 
 impl LiveBoard {

@@ -1,6 +1,6 @@
 //! The slots of a board as parts again.
 ghost use Rattle.std.specs.Prelude.{◌≡◌, ◌+◌, ◌≤◌, ◌<◌, length};
-ghost use Rattle.part_board.specs.Gathering.{with_slot, place_after, apics_in, gathered, none_but};
+ghost use Rattle.part_copies.specs.Gathering.{with_slot, place_after, apics_in, gathered, none_but};
 
 use board_raise::{LapicRow, Parts};
 use part_slots::Slot;

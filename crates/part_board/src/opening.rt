@@ -10,7 +10,7 @@ ghost use Rattle.board_step.specs.Publications.{words as words_of_board};
 ghost use Rattle.turn_book.specs.Views.{view_of, first_view};
 ghost use Rattle.part_slots.specs.Slots.{slots_of};
 ghost use Rattle.part_board.specs.Seen.{IsDeskOf, desk_view, desk_seen, has_made};
-ghost use Rattle.part_board.specs.Gathering.{listed, registry_slot, counters_slot, tick_slot, pic_slot, ioapic_slot, apic_slot, apic_slots, five_slots, slots_in};
+ghost use Rattle.part_copies.specs.Gathering.{listed, registry_slot, counters_slot, tick_slot, pic_slot, ioapic_slot, apic_slot, apic_slots, five_slots, slots_in};
 
 use crate::callers::Callers;
 use crate::desk::Desk;

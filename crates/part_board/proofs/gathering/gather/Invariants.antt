@@ -1,6 +1,6 @@
 use Rattle.std.proofs.Common.{◌≡◌, ◌+◌, ◌≤◌, length}
 use Rattle.std.specs.Vec.Iter.{into_iter_items, into_iter_len}
-use Rattle.part_board.specs.Gathering.{apics_in, gathered}
+use Rattle.part_copies.specs.Gathering.{apics_in, gathered}
 use Rattle.part_board.proofs.gathering.gather.Given as goal
 
 -- what is left to gather makes all

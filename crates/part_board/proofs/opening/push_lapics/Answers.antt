@@ -1,7 +1,7 @@
 use Rattle.std.proofs.Common.{◌<◌, ◌++◌, length, slice_set, slice_get, None, Some, sym, ap, ◌∙◌, subst, arith}
 use Rattle.std.proofs.lemmas.List.{append_assoc}
-use Rattle.part_board.specs.Gathering.{listed, apic_slot, apic_slots, drained}
-use Rattle.part_board.proofs.Rows.{length-drained, drained_next, slots_next}
+use Rattle.part_copies.specs.Gathering.{listed, apic_slot, apic_slots, drained}
+use Rattle.part_copies.proofs.Rows.{length-drained, drained_next, slots_next}
 use Rattle.part_board.proofs.opening.push_lapics.Goals as goal
 
 pub put-lapic-requires : goal.put-lapic-requires

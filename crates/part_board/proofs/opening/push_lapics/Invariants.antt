@@ -1,5 +1,5 @@
 use Rattle.std.proofs.Common.{◌≡◌, ◌++◌, length}
-use Rattle.part_board.specs.Gathering.{apic_slots, drained}
+use Rattle.part_copies.specs.Gathering.{apic_slots, drained}
 use Rattle.part_board.proofs.opening.push_lapics.Given as goal
 
 -- the local APICs of the places before have gone

@@ -7,7 +7,7 @@ use Rattle.board_raise.specs.declared.parts.Parts.{Parts}
 use Rattle.board_raise.specs.OnRow.{Row}
 use Rattle.part_slots.specs.declared.slot.Slot.{Slot}
 use Rattle.part_slots.specs.declared.slot.Slot.TheVariants as slots
-use Rattle.part_board.specs.Gathering.{listed, apic_slot, apic_slots, drained, with_slot, place_after, apics_in, gathered}
+use Rattle.part_copies.specs.Gathering.{listed, apic_slot, apic_slots, drained, with_slot, place_after, apics_in, gathered}
 
 some_is : {A : Type 0} (x y : A) → Some x ≡ Some y → x ≡ y
 some_is x y e = cc

@@ -26,8 +26,8 @@ use Rattle.part_slots.specs.declared.slot.Slot.TheVariants as slots
 use Rattle.part_slots.specs.Slots.{registry_slot as home_of, pic_slot as pic_of_board, ioapic_slot as ioapic_of_board, slots_of}
 use Rattle.part_slots.specs.Histories.{KeepsPart}
 use Rattle.part_slots.proofs.Commits.{kept_parts_are_slots}
-use Rattle.part_board.specs.Gathering.{listed, registry_slot, counters_slot, tick_slot, pic_slot, ioapic_slot, apic_slots, five_slots, slots_in, apics_in, gathered, none_but}
-use Rattle.part_board.proofs.Rows.{all_apics, row_filled, apics_many}
+use Rattle.part_copies.specs.Gathering.{listed, registry_slot, counters_slot, tick_slot, pic_slot, ioapic_slot, apic_slots, five_slots, slots_in, apics_in, gathered, none_but}
+use Rattle.part_copies.proofs.Rows.{all_apics, row_filled, apics_many}
 
 some_is : {A : Type 0} (x y : A) → Some x ≡ Some y → x ≡ y
 some_is x y e = cc

@@ -6,8 +6,8 @@ use Rattle.board_raise.specs.declared.parts.Parts.{Parts}
 use Rattle.board_raise.specs.BoardRig.{NamesWhatIsThere, words_in}
 use Rattle.board_raise.specs.InHand.{registry_of}
 use Rattle.board_step.specs.History.{opening_registry}
-use Rattle.part_board.proofs.Ends.{left_names, left_words}
-use Rattle.part_board.proofs.closing.restored.Goals as goal
+use Rattle.part_copies.proofs.LeftWords.{left_names, left_words}
+use Rattle.part_copies.proofs.restoring.restored.Goals as goal
 
 pub publish-requires-clause-names : goal.publish-requires-clause-names
 publish-requires-clause-names c =
