@@ -4,3 +4,4 @@ pub mod Joins
 pub mod Ends
 pub mod Openings
 pub mod Tries
+pub mod Calls

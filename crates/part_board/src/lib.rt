@@ -9,6 +9,7 @@
 #![tactic(auto)]
 
 mod callers;
+mod calling;
 mod closed;
 mod closing;
 mod desk;
