@@ -67,10 +67,10 @@ fn a_board_that_nobody_called_is_closed_as_it_was_opened(rt: HostRuntime) -> Res
     let Ok((board, mut desk)) = LiveBoard::power_on(rt.alloc(), &small()) else {
         return Err(NoMemory);
     };
-    let Ok(mut first) = desk.pass(&board, Caller::Device(3)) else {
+    let Ok(mut first) = desk.pass(rt.alloc(), &board, Caller::Device(3)) else {
         return Err(NoMemory);
     };
-    let Ok(mut second) = desk.pass(&board, Caller::Cpu(1)) else {
+    let Ok(mut second) = desk.pass(rt.alloc(), &board, Caller::Cpu(1)) else {
         return Err(NoMemory);
     };
     assert_eq!(rt;
@@ -104,14 +104,14 @@ fn each_caller_has_one_pass(rt: HostRuntime) -> Result<(), NoMemory> {
     let Ok((board, mut desk)) = LiveBoard::power_on(rt.alloc(), &small()) else {
         return Err(NoMemory);
     };
-    let Ok(_first) = desk.pass(&board, Caller::Cpu(0)) else {
+    let Ok(_first) = desk.pass(rt.alloc(), &board, Caller::Cpu(0)) else {
         return Err(NoMemory);
     };
-    match desk.pass(&board, Caller::Cpu(0)) {
+    match desk.pass(rt.alloc(), &board, Caller::Cpu(0)) {
         Ok(_) => assert!(rt; false),
         Err(fault) => assert_eq!(rt; fault, PassError::Taken),
     }
-    assert!(rt; desk.pass(&board, Caller::Device(0)).is_ok());
+    assert!(rt; desk.pass(rt.alloc(), &board, Caller::Device(0)).is_ok());
     Ok(())
 }
 
@@ -120,13 +120,13 @@ fn the_first_pass_that_is_missing_is_named(rt: HostRuntime) -> Result<(), NoMemo
     let Ok((board, mut desk)) = LiveBoard::power_on(rt.alloc(), &small()) else {
         return Err(NoMemory);
     };
-    let Ok(device) = desk.pass(&board, Caller::Device(0)) else {
+    let Ok(device) = desk.pass(rt.alloc(), &board, Caller::Device(0)) else {
         return Err(NoMemory);
     };
-    let Ok(second) = desk.pass(&board, Caller::Cpu(1)) else {
+    let Ok(second) = desk.pass(rt.alloc(), &board, Caller::Cpu(1)) else {
         return Err(NoMemory);
     };
-    let Ok(first) = desk.pass(&board, Caller::Cpu(0)) else {
+    let Ok(first) = desk.pass(rt.alloc(), &board, Caller::Cpu(0)) else {
         return Err(NoMemory);
     };
     let Ok(passes) = vec![in rt.alloc(); device] else {

@@ -62,13 +62,13 @@ module _ (shape : Shape) (v : Seen) (begins : v.begin ≡ Some (opening shape)) 
 
   -- there is room for copies of them
   pub room_there : HoldsRight slots_of v → (room : Room) → IsRoom shape room → (q : ℕ) (x : Slot) → held_at q v.held ≡ Some x → HasRoomFor q x room
-  room_there right room is q x held = room_for legal.1 room.parts stands.sound (subst (λ s. IsWhole s (parts_of room.parts)) (sym stands.shape) is.whole) (subst (λ s. Fits s (parts_of room.parts) (chips_of room.parts)) (sym stands.shape) is.fits) q x (right_is right q x held)
+  room_there right room is q x held = room_for legal.1 room stands.sound (subst (λ s. IsRoom s room) (sym stands.shape) is) q x (right_is right q x held)
 
   -- the copies are all its parts
   pub all_parts_are : HoldsRight slots_of v → HoldsJust (up_from 0 (5 + shape.cpus)) v.held → (room after : Room) → IsRoom shape room → after ≡ copied_each copied_in (up_from 0 (5 + shape.cpus)) v.held room → AreAll after.parts legal.1
   all_parts_are right just room after is copied =
       subst (λ q. AreAll q legal.1) (sym (ap (λ (r : Room). r.parts) copied ∙ room_copied (up_from 0 (5 + shape.cpus)) v.held room))
-      (copies_are legal.1 v.held room.parts shape.cpus many (is.whole.places ∙ many) (held_is right just))
+      (copies_are legal.1 v.held room.parts shape.cpus many (is.places ∙ many) (held_is right just))
 
   module _ (p : Parts) (all : AreAll p legal.1) (front : Front) (long : front.length ≡ length v.seen) (published : front.generation ≡ count_by is_publication v.seen) where
     pub whole_is : IsWhole shape (parts_of p)

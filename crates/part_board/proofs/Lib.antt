@@ -3,3 +3,5 @@ pub mod Learnt
 pub mod Joins
 pub mod Ends
 pub mod Openings
+pub mod Tries
+pub mod Calls

@@ -3,3 +3,4 @@ pub mod Made
 pub mod Seen
 pub mod Closing
 pub mod Joining
+pub mod Tried

@@ -15,13 +15,21 @@ use crate::live::LiveBoard;
 use crate::note::Note;
 use crate::pass::Pass;
 use irq_base::Caller;
+use part_copies::Room;
 use part_slots::caller_number;
+use std::alloc::Global;
 
 impl Desk {
     /// The pass of a caller, which is a device below 64 or a processor of the board.
     ///
-    /// `Taken` comes exactly where the pass of that caller was made before, and then the desk is unchanged.
-    pub fn pass(&mut self, board: &LiveBoard, caller: Caller) -> Result<Pass, PassError>
+    /// `Taken` comes exactly where the pass of that caller was made before. After a refusal the desk is unchanged. It takes all
+    /// memory that the calls of the pass will ever need.
+    pub fn pass(
+        &mut self,
+        alloc: Global,
+        board: &LiveBoard,
+        caller: Caller,
+    ) -> Result<Pass, PassError>
         requires desk { IsDeskOf board.now self.old }
         requires there { is_there caller board.now.shape ≡ true }
         ensures desk { IsDeskOf board.now self.new }
@@ -34,6 +42,9 @@ impl Desk {
         if self.made.has(caller) {
             return Err(PassError::Taken);
         }
+        let Ok(room) = Room::of(alloc, &board.shape) else {
+            return Err(PassError::NoMemory);
+        };
         let _ = board.book.front(&mut self.pen);
         let pen = board.book.split(&mut self.pen, Some(caller_number(caller)));
         self.made.insert(caller);
@@ -41,6 +52,7 @@ impl Desk {
             pen,
             caller,
             shape: self.shape,
+            room: Some(room),
         })
     }
 

@@ -4,11 +4,12 @@
 //! caller's way to the board: it knows a list of entries, which begins the one legal history of the board. A `Note` carries what
 //! a pass has seen to another pass, or to the desk.
 //!
-//! Reading order of the definitions: `Callers` (sets of callers), `Seen` (what a pass, a note and a desk know), `Closing` (how a
-//! board ends).
+//! Reading order of the definitions: `Callers` (sets of callers), `Seen` (what a pass, a note and a desk know), `Tried` (what an
+//! attempt of a call comes to), `Closing` (how a board ends).
 #![tactic(auto)]
 
 mod callers;
+mod calling;
 mod closed;
 mod closing;
 mod desk;
@@ -19,10 +20,12 @@ mod live;
 mod note;
 mod opening;
 mod pass;
+mod trying;
 
 pub use closed::{Closed, Missing};
 pub use desk::Desk;
 pub use error::PassError;
 pub use live::LiveBoard;
 pub use note::Note;
+pub use part_attempt::NotNow;
 pub use pass::Pass;

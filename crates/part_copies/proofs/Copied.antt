@@ -4,6 +4,7 @@ use Rattle.std.specs.Prelude.{IfSome, option_map}
 use Rattle.std.specs.declared.option.Option.{Option}
 use Rattle.lapic.specs.Registers.{LocalApic}
 use Rattle.irq_base.specs.declared.shape.Part.TheVariants.{Registry, Counters}
+use Rattle.irq_base.specs.declared.shape.Shape.{Shape}
 use Rattle.board_model.specs.Board.{Board}
 use Rattle.board_raise.specs.declared.parts.Parts.{Parts}
 use Rattle.board_raise.specs.declared.parts.RegistryPart.{RegistryPart}
@@ -20,7 +21,7 @@ use Rattle.part_slots.specs.Slots.{registry_slot, pic_slot, ioapic_slot, slots_o
 use Rattle.part_slots.proofs.Places.{lapic_slots}
 use Rattle.part_copies.specs.declared.room.Room.{Room}
 use Rattle.part_copies.specs.Copied.{with_copy, IsLong, RoomFor}
-use Rattle.part_copies.specs.Rooms.{copied_in}
+use Rattle.part_copies.specs.Rooms.{IsRoom, copied_in}
 use Rattle.part_copies.specs.Gathering.{gathered}
 use Rattle.part_copies.specs.Places.{up_from}
 use Rattle.part_copies.proofs.Boards.{AreAll}
@@ -93,32 +94,40 @@ room_copied (p ∷ ps) hs room = room_copied ps hs (copied_at copied_in p (held_
 
 -- ---- room
 
-counters_long : (o : Option (List ℕ)) (kept : List ℕ) (n : ℕ) → is_some o ≡ true → IfSome o (λ c. length c ≡ n) → length kept ≡ n → IsLong kept o
-counters_long None kept n there long is = absurd (true≢false (sym there))
-counters_long (Some c) kept n there long is = long ∙ sym is
+some_same : {A : Type 0} (x y : A) → Some x ≡ Some y → x ≡ y
+some_same x y e = cc
+
+counters_long : (o : Option (List ℕ)) (kept : List ℕ) (n : ℕ) → option_map (λ (c : List ℕ). length c) o ≡ Some n → length kept ≡ n → IsLong kept o
+counters_long None kept n there is = cc
+counters_long (Some c) kept n there is = some_same (length c) n there ∙ sym is
 
 pub apic_at : (row : List LocalApic) (n : ℕ) (x : Slot) → slice_get (lapic_slots row) n ≡ Some x → (a : LocalApic) × (x ≡ slots.Lapic a) × (n < length row)
 apic_at [] n x is = cc
 apic_at (a ∷ row) zero x is = (a, (cc), omega arith)
 apic_at (a ∷ row) (suc n) x is = (let f = apic_at row n x is in (f.0, f.1, (let low = f.2 in omega (arith, low))))
 
-some_same : {A : Type 0} (x y : A) → Some x ≡ Some y → x ≡ y
-some_same x y e = cc
-
 -- there is room for a copy of each slot of a board in the room for one of its shape
-pub room_for : (b : Board) (p : Parts) → IsSound b → IsWhole b.shape (parts_of p) → Fits b.shape (parts_of p) (chips_of p) → (q : ℕ) (x : Slot) → slice_get (slots_of b) q ≡ Some x → RoomFor q x p
-room_for b p sound whole fits zero x is = subst (λ s. RoomFor 0 s p) (some_same (registry_slot b) x is) (registry_there p.registry (whole.each Registry refl))
-  where
-    registry_there : (o : Option RegistryPart) → is_some (option_map registry_of o) ≡ true → is_some o ≡ true
-    registry_there None e = e
-    registry_there (Some r) e = refl
-room_for b p sound whole fits (suc zero) x is = subst (λ s. RoomFor 1 s p) (some_same (slots.Counters b.counters) x is) (counters_long p.counters b.counters b.shape.counters (whole.each Counters refl) fits.counters sound.counts.number)
-room_for b p sound whole fits (suc (suc zero)) x is = subst (λ s. RoomFor 2 s p) (some_same (slots.Tick b.tick) x is) tt
-room_for b p sound whole fits (suc (suc (suc zero))) x is = subst (λ s. RoomFor 3 s p) (some_same (pic_slot b) x is) tt
-room_for b p sound whole fits (suc (suc (suc (suc zero)))) x is = subst (λ s. RoomFor 4 s p) (some_same (ioapic_slot b) x is) tt
-room_for b p sound whole fits (suc (suc (suc (suc (suc n))))) x is =
+pub room_for : (b : Board) (room : Room) → IsSound b → IsRoom b.shape room → (q : ℕ) (x : Slot) → slice_get (slots_of b) q ≡ Some x → RoomFor q x room.parts
+room_for b room sound has zero x is = subst (λ s. RoomFor 0 s room.parts) (some_same (registry_slot b) x is) has.registry
+room_for b room sound has (suc zero) x is = subst (λ s. RoomFor 1 s room.parts) (some_same (slots.Counters b.counters) x is) (counters_long room.parts.counters b.counters b.shape.counters has.counters sound.counts.number)
+room_for b room sound has (suc (suc zero)) x is = subst (λ s. RoomFor 2 s room.parts) (some_same (slots.Tick b.tick) x is) tt
+room_for b room sound has (suc (suc (suc zero))) x is = subst (λ s. RoomFor 3 s room.parts) (some_same (pic_slot b) x is) tt
+room_for b room sound has (suc (suc (suc (suc zero)))) x is = subst (λ s. RoomFor 4 s room.parts) (some_same (ioapic_slot b) x is) tt
+room_for b room sound has (suc (suc (suc (suc (suc n))))) x is =
     let (a, slot, low) = apic_at b.lapics n x is in
-    let places = whole.places in
+    let places = has.places in
     let many = sound.lapics.places in
     let few = sound.limits.cpus in
-    subst (λ s. RoomFor (suc (suc (suc (suc (suc n))))) s p) (sym slot) (omega (arith, low, places, many), omega (arith, low, many, few))
+    subst (λ s. RoomFor (suc (suc (suc (suc (suc n))))) s room.parts) (sym slot) (omega (arith, low, places, many), omega (arith, low, many, few))
+
+-- the parts of a board, none of which is missing, are room for its copies
+registry_there : (o : Option RegistryPart) → is_some (option_map registry_of o) ≡ true → is_some o ≡ true
+registry_there None e = e
+registry_there (Some r) e = refl
+
+counters_there : (o : Option (List ℕ)) (n : ℕ) → is_some o ≡ true → IfSome o (λ c. length c ≡ n) → option_map (λ (c : List ℕ). length c) o ≡ Some n
+counters_there None n there is = absurd (true≢false (sym there))
+counters_there (Some c) n there is = ap (λ k. Some k) is
+
+pub parts_are_room : (shape : Shape) (room : Room) → IsWhole shape (parts_of room.parts) → Fits shape (parts_of room.parts) (chips_of room.parts) → IsRoom shape room
+parts_are_room shape room whole fits = record { registry = registry_there room.parts.registry (whole.each Registry refl); counters = counters_there room.parts.counters shape.counters (whole.each Counters refl) fits.counters; places = whole.places }

@@ -1,17 +1,15 @@
 -- Room for the copies of a call (this board's own).
-use Rattle.std.specs.Prelude.{ℕ}
+use Rattle.std.specs.Prelude.{◌≡◌, ℕ, true, List, length, is_some, option_map, Some}
 use Rattle.irq_base.specs.declared.shape.Shape.{Shape}
-use Rattle.board_raise.specs.Fit.{Fits}
-use Rattle.board_raise.specs.InHand.{parts_of, chips_of}
-use Rattle.board_step.specs.Whole.{IsWhole}
 use Rattle.part_slots.specs.declared.slot.Slot.{Slot}
 use Rattle.part_copies.specs.declared.room.Room.{Room}
 use Rattle.part_copies.specs.Copied.{with_copy, RoomFor, written_by, FitsOver}
 
--- there is room for each part of a board of that shape
+-- there is room for each part of a board of that shape: a registry, as many counters, and a place for each local APIC
 pub record IsRoom (shape : Shape) (room : Room) : Type 0 where
-  pub whole : IsWhole shape (parts_of room.parts)
-  pub fits : Fits shape (parts_of room.parts) (chips_of room.parts)
+  pub registry : is_some room.parts.registry ≡ true
+  pub counters : option_map (λ (c : List ℕ). length c) room.parts.counters ≡ Some shape.counters
+  pub places : length room.parts.lapics ≡ shape.cpus
 
 -- ---- copies in a room
 

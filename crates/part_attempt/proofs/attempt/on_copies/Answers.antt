@@ -6,6 +6,7 @@ use Rattle.board_raise.specs.InHand.{parts_of, chips_of}
 use Rattle.board_step.specs.Whole.{IsWhole}
 use Rattle.board_step.proofs.Faces.{answered_shape}
 use Rattle.turn_book.specs.Views.{view_of}
+use Rattle.part_copies.proofs.Copied.{parts_are_room}
 use Rattle.part_attempt.proofs.Standing.{some_is, stands}
 use Rattle.part_attempt.proofs.Entries.{is_applied}
 use Rattle.part_attempt.proofs.attempt.on_copies.Goals as goal
@@ -32,7 +33,7 @@ returns-in-Err-clause-room c =
     let shape = sym (ap (λ (b : Board). b.shape) same) ∙ (stands c.args.shape.now (view_of c.args.pen.now.seat) c.requires.begins c.requires.legal).shape in
     let after = ap (λ (b : Board). b.shape) c.in-Err.ensures.stays ∙ shape in
     let p = c.into_parts-parts.result.0 in
-    record { whole = subst (λ s. IsWhole s (parts_of p)) after c.into_parts-parts.ensures.whole; fits = subst (λ s. Fits s (parts_of p) (chips_of p)) after c.into_parts-parts.ensures.fits }
+    parts_are_room c.args.shape.now (record { parts = p; words = c.into_parts-parts.result.1 }) (subst (λ s. IsWhole s (parts_of p)) after c.into_parts-parts.ensures.whole) (subst (λ s. Fits s (parts_of p) (chips_of p)) after c.into_parts-parts.ensures.fits)
 
 pub returns-in-Ok-enter-clause-at : goal.returns-in-Ok-enter-clause-at
 returns-in-Ok-enter-clause-at c =
@@ -45,7 +46,7 @@ returns-in-Ok-enter-clause-room c =
     let shape = sym (ap (λ (b : Board). b.shape) same) ∙ (stands c.args.shape.now (view_of c.args.pen.now.seat) c.requires.begins c.requires.legal).shape in
     let after = answered_shape c.args.board c.args.looked.caller c.args.call.now c.in-Ok.done _ _ c.apply.new.self c.in-Ok.ensures.applied ∙ shape in
     let p = c.into_parts-parts-in-Ok.result.0 in
-    record { whole = subst (λ s. IsWhole s (parts_of p)) after c.into_parts-parts-in-Ok.ensures.whole; fits = subst (λ s. Fits s (parts_of p) (chips_of p)) after c.into_parts-parts-in-Ok.ensures.fits }
+    parts_are_room c.args.shape.now (record { parts = p; words = c.into_parts-parts-in-Ok.result.1 }) (subst (λ s. IsWhole s (parts_of p)) after c.into_parts-parts-in-Ok.ensures.whole) (subst (λ s. Fits s (parts_of p) (chips_of p)) after c.into_parts-parts-in-Ok.ensures.fits)
 
 pub returns-in-Err-enter-clause-room : goal.returns-in-Err-enter-clause-room
 returns-in-Err-enter-clause-room c =
@@ -53,4 +54,4 @@ returns-in-Err-enter-clause-room c =
     let shape = sym (ap (λ (b : Board). b.shape) same) ∙ (stands c.args.shape.now (view_of c.args.pen.now.seat) c.requires.begins c.requires.legal).shape in
     let after = answered_shape c.args.board c.args.looked.caller c.args.call.now c.in-Ok.done _ _ c.apply.new.self c.in-Ok.ensures.applied ∙ shape in
     let p = c.into_parts-parts-in-Ok.result.0 in
-    record { whole = subst (λ s. IsWhole s (parts_of p)) after c.into_parts-parts-in-Ok.ensures.whole; fits = subst (λ s. Fits s (parts_of p) (chips_of p)) after c.into_parts-parts-in-Ok.ensures.fits }
+    parts_are_room c.args.shape.now (record { parts = p; words = c.into_parts-parts-in-Ok.result.1 }) (subst (λ s. IsWhole s (parts_of p)) after c.into_parts-parts-in-Ok.ensures.whole) (subst (λ s. Fits s (parts_of p) (chips_of p)) after c.into_parts-parts-in-Ok.ensures.fits)
