@@ -29,9 +29,9 @@ among q first zero most low = absurd (omega (arith, most, low))
 among q first (suc n) most low = elim (eqb_tells first q) [
   | inl e ↦ ap (λ b. elim b as (λ _. Bool) [ true ↦ true | false ↦ is_in q (up_from (suc first) n) ]) e.0
   | inr e ↦ (
-    let other : nat_eq first q ≡ false = e.0 in
-    let more : suc first ≤ q = grind (arith, nat_tests) in
-    ap (λ b. elim b as (λ _. Bool) [ true ↦ true | false ↦ is_in q (up_from (suc first) n) ]) other ∙ among q (suc first) n more (omega (arith, low)))
+      let other : nat_eq first q ≡ false = e.0 in
+      let more : suc first ≤ q = grind (arith, nat_tests) in
+      ap (λ b. elim b as (λ _. Bool) [ true ↦ true | false ↦ is_in q (up_from (suc first) n) ]) other ∙ among q (suc first) n more (omega (arith, low)))
 ]
 
 pub all_apart : (first n : ℕ) → AreApart (up_from first n)

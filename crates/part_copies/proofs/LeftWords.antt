@@ -17,4 +17,3 @@ left_names (Some r) tick sound = record { irqfds = sound.irqfds; watches = sound
 pub left_words : (o : Option RegistryPart) (ws : List ℕ) (tick : ℕ) → is_some (option_map registry_of o) ≡ true → IfSome o (λ (r : RegistryPart). ws ≡ published (registry_of r) tick) → ws ≡ published (unwrap_or (option_map registry_of o) opening_registry) tick
 left_words None ws tick there is = absurd (true≢false (sym there))
 left_words (Some r) ws tick there is = is
-
