@@ -2,7 +2,7 @@
 ghost use Rattle.std.specs.Prelude.{◌≡◌, ◌≤◌, IfOk};
 ghost use Rattle.part_board.specs.Seen.{IsDeskOf, IsPassOf};
 
-use irq_base::{Call, Caller, Events, NoMemory, Shape};
+use irq_base::{Call, Caller, Cause, Done, Events, NoMemory, Reply, Shape, Status};
 use part_board::{Desk, LiveBoard, Pass};
 use std::alloc::Global;
 use std::sync::Wait;
@@ -156,6 +156,61 @@ fn attempts_in_two_threads_have_as_many_entries_as_answers(
     match board.close(desk, passes) {
         Err(_) => assert!(rt; false),
         Ok(closed) => assert!(rt; closed.length == answered),
+    }
+    Ok(())
+}
+
+// What one attempt answers, where it is answered.
+fn reply_of(board: &LiveBoard, pass: &mut Pass, call: &Call) -> Option<Done>
+    requires pass { IsPassOf board.now pass.old }
+    ensures pass { IsPassOf board.now pass.new }
+    ensures caller { pass.new.caller ≡ pass.old.caller }
+{
+    let mut events = Events::new();
+    if call.allowed(pass.caller(), &board.shape()) {
+        match board.try_call(pass, call, &mut events) {
+            Ok(answer) => answer.ok(),
+            Err(_) => None,
+        }
+    } else {
+        None
+    }
+}
+
+#[test]
+fn a_tick_is_ignored_and_learnt_of_and_closed(rt: HostRuntime) -> Result<(), NoMemory> {
+    let alloc = rt.alloc();
+    let (board, mut desk) = opened(alloc)?;
+    let Ok(mut device) = desk.pass(alloc, &board, Caller::Device(0)) else {
+        return Err(NoMemory);
+    };
+    assert!(rt; desk.pass(alloc, &board, Caller::Device(0)).is_err());
+    let Ok(mut processor) = desk.pass(alloc, &board, Caller::Cpu(0)) else {
+        return Err(NoMemory);
+    };
+    let done = reply_of(&board, &mut device, &Call::Tick);
+    let ignored = Done {
+        reply: Reply::Signal(Status::Ignored(Cause::Masked)),
+        at: 0,
+    };
+    assert!(rt; done == Some(ignored));
+    let note = board.note(&mut device);
+    board.learn(&mut processor, note);
+    let Ok(passes) = vec![in alloc; device] else {
+        return Err(NoMemory);
+    };
+    let Err(missing) = board.close(desk, passes) else {
+        assert!(rt; false);
+        return Ok(());
+    };
+    assert!(rt; missing.caller == Caller::Cpu(0));
+    let mut passes = missing.passes;
+    if passes.push(processor).is_err() {
+        return Err(NoMemory);
+    }
+    match missing.board.close(missing.desk, passes) {
+        Err(_) => assert!(rt; false),
+        Ok(closed) => assert!(rt; closed.length == 1),
     }
     Ok(())
 }
