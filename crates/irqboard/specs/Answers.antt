@@ -1,5 +1,5 @@
 -- What the program answers, and when.
-use Rattle.std.specs.Prelude.{◌≡◌, ℕ, ◌≤◌, List, [], ◌∷◌, ◌++◌, length, take, codes, Some, None}
+use Rattle.std.specs.Prelude.{◌≡◌, ℕ, ◌<◌, ◌≤◌, List, [], ◌∷◌, ◌++◌, length, take, codes, Some, None}
 use Rattle.std.specs.declared.option.Option.{Option}
 use Rattle.std.specs.Fmt.{decimal}
 use Rattle.irq_base.specs.declared.reply.Spent.{Spent as Limit}
@@ -72,10 +72,10 @@ JudgesRightly command _ left _ = Unit {0}
 abbrev pub Wrote : Command → List ℕ → Outcome → List ℕ → Option (List ℕ) → Type 0
 Wrote command input outcome held holds = (text : List ℕ) × Works command input outcome text × (holds ≡ Some (held ++ text))
 
--- a front of it was written
+-- a front of it was written that is not all of it
 abbrev pub WroteFront : Command → List ℕ → List ℕ → Option (List ℕ) → Type 0
 WroteFront command input held holds =
-    (outcome : Outcome) × (text : List ℕ) × (n : ℕ) × Works command input outcome text × (n ≤ length text)
+    (outcome : Outcome) × (text : List ℕ) × (n : ℕ) × Works command input outcome text × (n < length text)
     × (holds ≡ Some (held ++ take n text))
 
 -- what an answer tells of the output, where the source tells the input and the sink what it holds: the whole text was written, or a

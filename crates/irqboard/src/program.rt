@@ -47,7 +47,7 @@ impl Model for Ended {
 }
 
 /// Asks the top call for the words of a command line, whose first text is the program's name. Where the texts are not to be had,
-/// nothing is read or written.
+/// nothing is written, and the answer is by what kept them away.
 pub fn asked<S: Source, K: Sink, G: Gate>(
     alloc: Global,
     texts: io::Result<Args>,

@@ -114,7 +114,7 @@ fn calls_are_answered(rt: HostRuntime) -> Result<(), Fail> {
 }
 
 // A script, its transcript, and how it ends.
-const RUNS: [(&str, &str, Outcome); 4] = [
+const RUNS: [(&str, &str, Outcome); 6] = [
     // Three rounds of `serve` end the interrupts of three ticks.
     (
         "irqboard 1\ncpus 1\ncpu0 out 0020 1 11\ncpu0 out 0021 1 20\ncpu0 out 0021 1 04\ncpu0 out 0021 1 01\ndev0 tick\ndev0 tick\ndev0 tick\ncpu0 serve 3\nend\n",
@@ -135,6 +135,22 @@ const RUNS: [(&str, &str, Outcome); 4] = [
         "transcript 1\n0 cpu0 ack -> nothing\n1 cpu0 ack -> nothing\n2 cpu0 ack -> nothing\nspent 3\n",
         Outcome::Spent {
             spent: Spent::Calls { at: 3 },
+        },
+    ),
+    // An actor that will be stopped asks its lines no sooner than they stand in the file.
+    (
+        "irqboard 1\ncpus 1\ncalls 2\ndev0 take 0\ndev1 take 0\ndev0 take 1\ndev0 take 2\nend\n",
+        "transcript 1\n0 dev0 take 0 -> empty\n1 dev1 take 0 -> empty\nspent 2\n",
+        Outcome::Spent {
+            spent: Spent::Calls { at: 2 },
+        },
+    ),
+    // Nor is it stopped before its line comes, by a limit that would bar it sooner.
+    (
+        "irqboard 1\ncpus 1\ncalls 2\npublications 0\ndev0 take 0\ndev1 take 0\ndev0 watch 0 5\nend\n",
+        "transcript 1\n0 dev0 take 0 -> empty\n1 dev1 take 0 -> empty\nspent 2\n",
+        Outcome::Spent {
+            spent: Spent::Calls { at: 2 },
         },
     ),
     // An actor that publications stop is passed over, and the others go on.

@@ -1,6 +1,6 @@
 -- Lines asked one after another.
 use Rattle.std.proofs.Common.{◌≡◌, ℕ, ◌+◌, ◌≤◌, true, false, true≢false, if◌then◌else◌, List, [], ◌∷◌, ◌++◌, append_assoc, length, drop, Ok, Err, Some, None, refl, sym, ap, ◌∙◌, subst}
-use Rattle.std.proofs.lemmas.List.{append-nil, drop_all}
+use Rattle.std.proofs.lemmas.List.{append-nil, append_cancel_left, drop_all}
 use Rattle.std.proofs.lemmas.List.Elements.{All-get_or}
 use Rattle.std.proofs.lemmas.Option.{slice_get_within, get_or_from_slice_get}
 use Rattle.std.specs.List.{slice_get, insert}
@@ -10,13 +10,13 @@ use Rattle.std.specs.declared.option.Option.{Option}
 use Rattle.irq_base.specs.declared.lists.Entry.{Entry}
 use Rattle.irq_base.specs.declared.reply.Spent.{Spent}
 use Rattle.script_text.specs.declared.task.ActorLine.{ActorLine}
-use Rattle.script_text.specs.Asks.{Asks, line_asks, unrolled, tasks_of}
+use Rattle.script_text.specs.Asks.{Asks, no_more, line_asks}
 use Rattle.script_text.specs.Fitting.{IsLine, IsScript}
 use Rattle.script_text.specs.Scripts.{Script, may_ask}
 use Rattle.board_model.specs.Board.{Board}
 use Rattle.board_step.specs.History.{opening}
 use Rattle.replaying.specs.declared.stops.Stop.{Stop}
-use Rattle.replaying.specs.FileOrder.{stop_of, with_stop, LineAsked, PassedOver, LinesAsked, first_stop}
+use Rattle.replaying.specs.FileOrder.{stop_of, with_stop, Asked, LineAsked, PassedOver, LinesAsked, first_stop}
 use Rattle.replaying.specs.Played.{Played, LinesPlayed}
 use Rattle.replaying.specs.Replays.{Replays}
 use Rattle.replaying.proofs.RowCopies.{drop-at}
@@ -26,7 +26,7 @@ use Rattle.replaying.proofs.Ordered.{replays}
 abbrev Taken : ActorLine → List ActorLine → Board → List Stop → List Entry → Board → List Stop → Type 0
 Taken line lines b had entries c has =
     (mine : List Entry) × (later : List Entry) × (stop : Option Spent) × (mid : Board) × (entries ≡ mine ++ later)
-    × LineAsked line lines b mine stop mid × LinesAsked lines mid (with_stop line.caller stop had) later c has
+    × LineAsked line b mine stop mid × LinesAsked lines mid (with_stop line.caller stop had) later c has
 
 asked_none : (b : Board) (had : List Stop) → LinesAsked [] b had [] b had
 unfolding LinesAsked
@@ -38,7 +38,7 @@ unfolding LinesAsked
 asked_passed line lines b had es c has spent stopped more = subst (λ o. PassedOver o (LinesAsked lines b had es c has) (Taken line lines b had es c has)) (sym stopped) more
 
 asked_taken : (line : ActorLine) (lines : List ActorLine) (b : Board) (had : List Stop) (mine : List Entry) (stop : Option Spent) (mid : Board) (later : List Entry) (c : Board) (has : List Stop)
-    → stop_of line.caller had ≡ None → LineAsked line lines b mine stop mid → LinesAsked lines mid (with_stop line.caller stop had) later c has
+    → stop_of line.caller had ≡ None → LineAsked line b mine stop mid → LinesAsked lines mid (with_stop line.caller stop had) later c has
     → LinesAsked (line ∷ lines) b had (mine ++ later) c has
 unfolding LinesAsked
 asked_taken line lines b had mine stop mid later c has free taken more =
@@ -58,12 +58,14 @@ module _ (lines : List ActorLine) (k : ℕ) (line : ActorLine) (at : slice_get l
       → stop_of line.caller had ≡ None → ((rest : Asks) → Played line.caller (line_asks line.task rest) rest b before stop mid between)
       → LinesPlayed (drop (k + 1) lines) mid (with_stop line.caller stop had) between c has after → LinesPlayed (drop k lines) b had before c has after
   played_taken b had before stop mid between c has after free each p =
-      let first = each (unrolled (tasks_of line.caller (drop (k + 1) lines))) in
+      let first = each no_more in
+      let same : (rest : Asks) → (each rest).mine ≡ first.mine = λ rest. append_cancel_left before (each rest).mine first.mine (sym (each rest).grown ∙ first.grown) in
       subst (λ ls. LinesPlayed ls b had before c has after) (sym (drop-at lines k line at))
       (record {
         mine = first.mine ++ p.mine;
         grown = p.grown ∙ ap (λ es. es ++ p.mine) first.grown ∙ append_assoc before first.mine p.mine;
-        asked = asked_taken line (drop (k + 1) lines) b had first.mine stop mid p.mine c has free first.asked p.asked;
+        asked = asked_taken line (drop (k + 1) lines) b had first.mine stop mid p.mine c has free
+            (λ rest. subst (λ es. Asked line.caller (line_asks line.task rest) rest b es stop mid) (same rest) (each rest).asked) p.asked;
       })
 
 -- all lines make a replay

@@ -16,7 +16,7 @@ use Rattle.board_step.specs.Step.{spent_of}
 use Rattle.board_step.proofs.Faces.{spent_reached}
 use Rattle.board_step.proofs.Following.{board_after_is_reached}
 use Rattle.replaying.specs.declared.stops.Stop.{Stop}
-use Rattle.replaying.specs.FileOrder.{stop_of, with_stop, Leaves, LineAsked, PassedOver, LinesAsked, first_stop}
+use Rattle.replaying.specs.FileOrder.{stop_of, with_stop, Leaves, Asked, LineAsked, PassedOver, LinesAsked, first_stop}
 use Rattle.script_histories.specs.Merging.{replies_of, next_of, Merges, IsWhole, AreBarred, EndsWell}
 use Rattle.script_histories.proofs.Callers.{callers_same, caller_itself}
 use Rattle.script_histories.proofs.Asking.{tasks_nothing, tasks_of_line, unrolled_nothing, unrolled_line, lineless_ask_nothing}
@@ -67,9 +67,12 @@ module _ (s : Script) where
 
   -- a line that is taken
   module _ (b : Board) (before : List Entry) (had : List Stop) (line : ActorLine) (lines : List ActorLine) (mine : List Entry) (stop : Option Spent) (mid : Board)
-      (free : stop_of line.caller had ≡ None) (stand : AllStand b before had (line ∷ lines)) (taken : LineAsked line lines b mine stop mid) where
+      (free : stop_of line.caller had ≡ None) (stand : AllStand b before had (line ∷ lines)) (each : LineAsked line b mine stop mid) where
     abbrev behind : Asks
     behind = unrolled (tasks_of line.caller lines)
+
+    abbrev taken : Asked line.caller (line_asks line.task behind) behind b mine stop mid
+    taken = each behind
 
     own : after s line.caller before ≡ line_asks line.task behind
     own = subst (λ o. Stands o (after s line.caller before) (unrolled (tasks_of line.caller (line ∷ lines))) b) free (stand line.caller) ∙ behind_own line lines
@@ -132,14 +135,14 @@ module _ (s : Script) where
           → (o : Option Spent) → stop_of line.caller had ≡ o
           → PassedOver o (LinesAsked lines b had entries c has)
           ((mine : List Entry) × (later : List Entry) × (stop : Option Spent) × (mid : Board) × (entries ≡ mine ++ later)
-          × LineAsked line lines b mine stop mid × LinesAsked lines mid (with_stop line.caller stop had) later c has)
+          × LineAsked line b mine stop mid × LinesAsked lines mid (with_stop line.caller stop had) later c has)
           → Made b before entries c has
       by rec (Some spent) stopped more = rec b had before entries (passed_over b before had line lines spent stopped stand) more
       by rec None free (mine, later, stop, mid, both, taken, more) =
           let rest = rec mid (with_stop line.caller stop had) (before ++ mine) later (stand_after_line b before had line lines mine stop mid free stand taken) more in
           record {
             merges = subst (λ es. Merges s before es) (sym both) (merges_append s before mine later (merges_line b before had line lines mine stop mid free stand taken) rest.merges);
-            leads = subst (λ es. Leads b es c) (sym both) (leads_append b mid c mine later taken.leads rest.leads);
+            leads = subst (λ es. Leads b es c) (sym both) (leads_append b mid c mine later (taken (unrolled (tasks_of line.caller lines))).leads rest.leads);
             stand = subst (λ es. AllStand c es has []) (append_assoc before mine later ∙ ap (λ es. before ++ es) (sym both)) rest.stand;
           }
 

@@ -6,7 +6,7 @@ use Rattle.irq_base.specs.declared.call.Caller.{Caller}
 use Rattle.irq_base.specs.declared.lists.Entry.{Entry}
 use Rattle.irq_base.specs.declared.reply.Spent.{Spent}
 use Rattle.script_text.specs.declared.task.ActorLine.{ActorLine}
-use Rattle.script_text.specs.Asks.{Asks, same_caller, tasks_of, next_call, answered, line_asks, unrolled}
+use Rattle.script_text.specs.Asks.{Asks, same_caller, next_call, answered, line_asks}
 use Rattle.script_text.specs.Scripts.{Script}
 use Rattle.board_model.specs.Board.{Board}
 use Rattle.board_step.specs.History.{opening, Leads}
@@ -36,10 +36,9 @@ pub record Asked (who : Caller) (asks rest : Asks) (b : Board) (entries : List E
   pub leads : Leads b entries c
   pub leaves : Leaves c left rest stop
 
--- a line, with those behind it: its caller asks up to what its later lines ask, or up to the first call that a limit bars
-abbrev pub LineAsked : ActorLine → List ActorLine → Board → List Entry → Option Spent → Board → Type 0
-LineAsked line later b entries stop c =
-    let behind = unrolled (tasks_of line.caller later) in Asked line.caller (line_asks line.task behind) behind b entries stop c
+-- a line, whatever its caller asks behind it: the caller asks the whole line, or up to the first call of the line that a limit bars
+abbrev pub LineAsked : ActorLine → Board → List Entry → Option Spent → Board → Type 0
+LineAsked line b entries stop c = (behind : Asks) → Asked line.caller (line_asks line.task behind) behind b entries stop c
 
 -- the stops with that of a caller, where it has one
 abbrev pub with_stop : Caller → Option Spent → List Stop → List Stop
@@ -59,7 +58,7 @@ LinesAsked (line ∷ lines) b had entries c has =
     PassedOver (stop_of line.caller had)
     (LinesAsked lines b had entries c has)
     ((mine : List Entry) × (later : List Entry) × (stop : Option Spent) × (mid : Board) × (entries ≡ mine ++ later)
-    × LineAsked line lines b mine stop mid × LinesAsked lines mid (with_stop line.caller stop had) later c has)
+    × LineAsked line b mine stop mid × LinesAsked lines mid (with_stop line.caller stop had) later c has)
 
 -- the limit that stopped the first actor of those that were stopped; actors are numbered by their first lines
 abbrev pub first_stop : List ActorLine → List Stop → Option Spent
