@@ -35,6 +35,7 @@ impl Desk {
         ensures desk { IsDeskOf board.now self.new }
         ensures taken { IsErrOf result errors.Taken ↔ (has_made self.old caller ≡ true) }
         ensures pass { IfOk result (IsNewPass board.now self.old caller) }
+        ensures level { IfOk result (λ pass. pass_seen pass ≡ desk_seen self.new) }
         ensures made { IfOk result (λ _. (desk_view self.new).made ≡ number_of_caller caller ∷ (desk_view self.old).made) }
         ensures seen { IsPrefix (desk_seen self.old) (desk_seen self.new) }
         ensures stays { OnErr result (self.new ≡ self.old) }

@@ -7,7 +7,8 @@ use irq_base::Shape;
 use part_machine::RunningBoard;
 use turn_book::TurnBook;
 
-/// A board that many threads call, each by a pass of its own. It shares one book of turns and nothing else.
+/// A board that many threads call, each by a pass of its own. It shares one book of turns and nothing else; the room beside it is
+/// for closing, and no call touches it.
 #[derive(Drop)]
 pub struct LiveBoard {
     pub(crate) book: TurnBook<RunningBoard>,
