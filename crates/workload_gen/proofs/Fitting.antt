@@ -1,14 +1,12 @@
 -- A generated script is a script of the grammar.
-use Rattle.std.proofs.Common.{◌≡◌, ℕ, ◌+◌, ◌-◌, ◌*◌, ◌/◌, ◌%◌, ◌^◌, ◌<◌, ◌≤◌, Bool, true, false, not, nat_eq, nat_lt, ◌&&◌, List, [], ◌∷◌, ◌++◌, if◌then◌else◌, None, refl, ap, sym, ◌∙◌, All, arith}
+use Rattle.std.proofs.Common.{◌≡◌, ℕ, ◌+◌, ◌-◌, ◌/◌, ◌%◌, ◌^◌, ◌<◌, ◌≤◌, Bool, true, false, not, nat_eq, nat_lt, ◌&&◌, ◌∷◌, ◌++◌, if◌then◌else◌, None, refl, ap, ◌∙◌, All, arith}
 use Rattle.std.proofs.lemmas.Bool.Decides.{nat_tests}
 use Rattle.std.proofs.lemmas.List.Elements.{All-cons}
 use Rattle.irq_base.specs.declared.call.Call.{Call}
-use Rattle.irq_base.specs.declared.call.Call.TheVariants.{Line, Msi, Write, Take, Assign, Reroute, Store, Load, Ack, Eoi}
+use Rattle.irq_base.specs.declared.call.Call.TheVariants.{Line, Write, Take, Assign, Store, Load, Ack, Eoi}
 use Rattle.irq_base.specs.declared.call.Caller.{Caller}
 use Rattle.irq_base.specs.declared.call.Caller.TheVariants.{Device, Cpu}
-use Rattle.irq_base.specs.declared.call.Row.{Row}
 use Rattle.irq_base.specs.Callers.{is_allowed, is_of_processor}
-use Rattle.script_text.specs.declared.task.ActorLine.{ActorLine}
 use Rattle.script_text.specs.Fitting.{FitsRow, FitsCall, IsLine, IsScript}
 use Rattle.rand_pcg.specs.Lcg.{Lcg}
 use Rattle.rand_pcg.specs.Pcg.{pcg32}

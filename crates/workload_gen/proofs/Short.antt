@@ -1,5 +1,5 @@
 -- The text of a generated script is short enough to be read: no line has more than 700 bytes.
-use Rattle.std.proofs.Common.{◌≡◌, ℕ, zero, suc, ◌+◌, ◌-◌, ◌*◌, ◌/◌, ◌%◌, ◌^◌, ◌<◌, ◌≤◌, Bool, true, false, nat_eq, max, List, [], ◌∷◌, ◌++◌, map, length, codes, if◌then◌else◌, None, refl, ap, sym, subst, ◌∙◌, All, arith}
+use Rattle.std.proofs.Common.{ℕ, zero, suc, ◌+◌, ◌-◌, ◌*◌, ◌/◌, ◌%◌, ◌^◌, ◌<◌, ◌≤◌, true, false, nat_eq, max, List, [], ◌∷◌, ◌++◌, map, length, codes, if◌then◌else◌, None, sym, subst, All, arith}
 use Rattle.std.specs.Fmt.{decimal}
 use Rattle.std.proofs.Math.Nat.{max-le}
 use Rattle.std.proofs.lemmas.Fmt.{length-decimal-le}
@@ -7,8 +7,7 @@ use Rattle.std.proofs.lemmas.List.{length-append, length-map}
 use Rattle.std.proofs.lemmas.List.Elements.{All-cons, All-head, All-tail}
 use Rattle.irq_base.specs.Text.{caller_text}
 use Rattle.irq_base.specs.declared.call.Call.{Call}
-use Rattle.irq_base.specs.declared.call.Call.TheVariants.{Line, Msi, Write, Take, Assign, Store, Load, Ack, Eoi}
-use Rattle.irq_base.specs.declared.call.Caller.{Caller}
+use Rattle.irq_base.specs.declared.call.Call.TheVariants.{Line, Write, Take, Assign, Store, Load, Ack, Eoi}
 use Rattle.irq_base.specs.declared.call.Caller.TheVariants.{Device, Cpu}
 use Rattle.irq_base.specs.declared.call.Row.{Row}
 use Rattle.script_text.specs.declared.task.ActorLine.{ActorLine}
@@ -18,7 +17,7 @@ use Rattle.script_text.proofs.Again.{length-digits}
 use Rattle.rand_pcg.specs.Lcg.{Lcg}
 use Rattle.rand_pcg.specs.Pcg.{pcg32}
 use Rattle.workload_gen.specs.Workload.{asks, alone, of_draw, each_below, enable, row, reroute, trigger, set_up, message, processor_call, device_call, call_of, actor, drawn, draws_at, drawn_line, workload}
-use Rattle.workload_gen.specs.Text.{header_words, workload_text}
+use Rattle.workload_gen.specs.Text.{workload_text}
 use Rattle.workload_gen.specs.Laws.{IsInRange}
 use Rattle.workload_gen.proofs.Below.{all-append, each-holds, length-each}
 use Rattle.workload_gen.proofs.Fitting.{actor-holds}
