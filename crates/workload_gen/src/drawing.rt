@@ -10,7 +10,7 @@ use rand_pcg::Pcg32;
 use std::alloc::Global;
 
 /// The address of a message to processor n, by its physical number.
-pub fn message_address(n: u16) -> u64
+pub fn message_address(n: u32) -> u64
     ensures { result ≡ message_address n }
 {
     0xfee0_0000 + 0x1000 * u64::from(n)
@@ -22,7 +22,7 @@ fn message(cpus: u16, x: u32) -> Call
     ensures { result ≡ message cpus x }
 {
     Call::Msi {
-        address: 0xfee0_0000 + 0x1000 * u64::from(x % u32::from(cpus)),
+        address: message_address(x % u32::from(cpus)),
         payload: 32 + x / 65536 % 200,
     }
 }

@@ -2,6 +2,7 @@
 ghost use Rattle.std.specs.Prelude.{◌≡◌, ◌<◌, ◌≤◌, IfOk};
 ghost use Rattle.workload_gen.specs.Workload.{row, each_below, reroute};
 
+use crate::drawing::message_address;
 use irq_base::{Call, NoMemory, Row, Rows};
 use std::alloc::Global;
 
@@ -14,7 +15,7 @@ fn row(cpus: u16, turn: u32, j: u16) -> Row
 {
     Row::Msi {
         gsi: 24 + j,
-        address: 0xfee0_0000 + 0x1000 * u64::from((u32::from(j) + turn) % u32::from(cpus)),
+        address: message_address((u32::from(j) + turn) % u32::from(cpus)),
         payload: 0x50 + u32::from(j),
     }
 }
