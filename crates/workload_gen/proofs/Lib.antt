@@ -1,0 +1,5 @@
+pub mod Below
+pub mod Headers
+pub mod Fitting
+pub mod Short
+pub mod Whole

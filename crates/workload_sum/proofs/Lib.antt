@@ -1,0 +1,3 @@
+pub mod CountLines
+pub mod Once
+pub mod Unspent
