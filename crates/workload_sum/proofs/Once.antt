@@ -140,8 +140,9 @@ one_entry line behind b (e ∷ []) c is h asked (next, step, same) = record {
     some_same x y h = cc
 
 line_free : (line : ActorLine) (later : List ActorLine) (b : Board) (mine : List Entry) (stop : Option Spent) (c : Board)
-    → All AsksOnce (line ∷ later) → HasRoom b (suc (length later)) → LineAsked line later b mine stop c → (stop ≡ None) × AsksIts line b mine c
-line_free line later b mine (Some spent) c are room taken =
+    → All AsksOnce (line ∷ later) → HasRoom b (suc (length later)) → LineAsked line b mine stop c → (stop ≡ None) × AsksIts line b mine c
+line_free line later b mine (Some spent) c are room takes =
+    let taken = takes (unrolled (tasks_of line.caller later)) in
     let tasks = tasks_few line.caller later (All-tail AsksOnce line later are) in
     let all = All-cons IsOnce line.task (tasks_of line.caller later) (All-head AsksOnce line later are) tasks.0 in
     let t = turns line.caller (line.task ∷ tasks_of line.caller later) mine taken.left all
@@ -151,7 +152,8 @@ line_free line later b mine (Some spent) c are room taken =
   where
     none_some : (spent : Spent) → None ≡ Some spent → ⊥
     none_some spent h = cc
-line_free line later b mine None c are room taken =
+line_free line later b mine None c are room takes =
+    let taken = takes (unrolled (tasks_of line.caller later)) in
     let tasks = tasks_few line.caller later (All-tail AsksOnce line later are) in
     let all = All-cons IsOnce line.task (tasks_of line.caller later) (All-head AsksOnce line later are) tasks.0 in
     let t = turns line.caller (line.task ∷ tasks_of line.caller later) mine taken.left all
@@ -175,7 +177,7 @@ lines_walk [] b es c has are room (nothing, same, kept) = (sym kept, (nothing, s
 lines_walk (line ∷ lines) b es c has are room (mine, later, stop, mid, is, taken, more) =
     let here = line_free line lines b mine stop mid are room taken in
     let one : length mine ≡ 1 = ap length here.1.alone in
-    let after = room_after b mid mine (length lines) (room_less b (suc (length lines)) (length mine + length lines) (omega (arith, one)) room) taken.leads in
+    let after = room_after b mid mine (length lines) (room_less b (suc (length lines)) (length mine + length lines) (omega (arith, one)) room) (taken (unrolled (tasks_of line.caller lines))).leads in
     let rest = lines_walk lines mid later c has (All-tail AsksOnce line lines are) after (subst (λ o. LinesAsked lines mid (with_stop line.caller o []) later c has) here.0 more) in
     (rest.0, (mine, later, mid, is, here.1, rest.1))
 
