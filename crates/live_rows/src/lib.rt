@@ -1,5 +1,0 @@
-// Tests of a running board.
-#![tactic(auto)]
-
-#[cfg(test)]
-mod rows;
