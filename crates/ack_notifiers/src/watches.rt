@@ -122,7 +122,8 @@ impl Watches {
         requires each { All (λ counter. counter < length (C.counts counters.old)) (watched self.now gsi) }
         ensures counts { C.counts counters.new ≡ signalled_all (C.counts counters.old) (watched self.now gsi) }
         ensures events { events.new.items ≡ with_told events.old.items (watch_events self.now gsi) }
-        ensures all { array_vec_len events.old + length (watched self.now gsi) ≤ 640 → events.new.items ≡ events.old.items ++ watch_events self.now gsi }
+        ensures all { array_vec_len events.old + length (watched self.now gsi) ≤ 640 → events.new.items ≡ events.old.items
+            ++ watch_events self.now gsi }
     {
         signal_rows(self.rows.as_slice(), gsi, counters, events);
     }

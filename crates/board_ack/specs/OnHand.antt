@@ -1,5 +1,6 @@
 -- An acknowledge on the parts in hand: what it tells, and what it changes of them.
-use Rattle.std.specs.Prelude.{◌≡◌, ℕ, ◌+◌, ◌≤◌, if◌then◌else◌, List, [], ◌++◌, length, Result, Ok, Err, Some, None, IfSome, is_some, option_map, true}
+use Rattle.std.specs.Prelude.{◌≡◌, ℕ, ◌+◌, ◌≤◌, if◌then◌else◌, List, [], ◌++◌, length, Result, Ok, Err, Some, None, IfSome, is_some}
+use Rattle.std.specs.Prelude.{option_map, true}
 use Rattle.std.specs.declared.option.Option.{Option}
 use Rattle.irq_base.specs.declared.event.Event.{Event}
 use Rattle.irq_base.specs.declared.message.Message.{Message}

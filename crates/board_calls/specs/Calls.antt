@@ -1,7 +1,8 @@
 -- What each call does (this board's own rule: one plan a call).
 use Rattle.std.specs.Prelude.{ℕ}
 use Rattle.irq_base.specs.declared.call.Call.{Call}
-use Rattle.irq_base.specs.declared.call.Call.TheVariants.{Line, Msi, Write, Take, Assign, Deassign, Reroute, Attach, Detach, Watch, Unwatch, Tick, TickMode, PortOut, PortIn, Store, Load, Ack, Inta, Eoi}
+use Rattle.irq_base.specs.declared.call.Call.TheVariants.{Line, Msi, Write, Take, Assign, Deassign, Reroute, Attach, Detach, Watch}
+use Rattle.irq_base.specs.declared.call.Call.TheVariants.{Unwatch, Tick, TickMode, PortOut, PortIn, Store, Load, Ack, Inta, Eoi}
 use Rattle.irq_base.specs.declared.call.Caller.{Caller}
 use Rattle.irq_base.specs.declared.call.Caller.TheVariants.{Device, Cpu}
 use Rattle.irq_base.specs.declared.call.Space.{Space}
@@ -11,7 +12,8 @@ use Rattle.ioevent_set.specs.declared.row.IoRow.{IoRow}
 use Rattle.board_model.specs.Routing.{Routing}
 use Rattle.board_model.specs.Plan.{Plan}
 use Rattle.board_calls.specs.Refusals.{range_reasons}
-use Rattle.board_calls.specs.Registrations.{unless_one_of, line_set, message_sent, write, take, assign, deassign, reroute, attach, detach, watch, unwatch}
+use Rattle.board_calls.specs.Registrations.{unless_one_of, line_set, message_sent, write, take, assign, deassign, reroute, attach}
+use Rattle.board_calls.specs.Registrations.{detach, watch, unwatch}
 use Rattle.board_calls.specs.Ticks.{tick, tick_mode}
 use Rattle.board_calls.specs.Processors.{end_of_interrupt, inta, next_interrupt}
 use Rattle.board_calls.specs.Accesses.{port_out, port_in, store, load}

@@ -1,5 +1,6 @@
 -- The first steps of calls that signal after them, each as a plan that ends with what the rest needs.
-use Rattle.std.specs.Prelude.{ℕ, Bool, false, ◌||◌, nat_eq, nat_lt, if◌then◌else◌, List, slice_index, Result, Ok, Err, Some, None, option_map}
+use Rattle.std.specs.Prelude.{ℕ, Bool, false, ◌||◌, nat_eq, nat_lt, if◌then◌else◌, List, slice_index, Result, Ok, Err, Some, None}
+use Rattle.std.specs.Prelude.{option_map}
 use Rattle.std.specs.List.{list_any}
 use Rattle.std.specs.declared.option.Option.{Option}
 use Rattle.irq_base.specs.Refusals.{first_of}

@@ -1,13 +1,16 @@
 -- Why a call is refused: the reasons of each call, in their order (this board's own rule, after the errors of the KVM API).
-use Rattle.std.specs.Prelude.{ℕ, ◌+◌, ◌-◌, ◌*◌, ◌/◌, ◌^◌, Bool, true, false, not, ◌&&◌, ◌||◌, nat_eq, nat_lt, nat_le, List, [], ◌∷◌, length, slice_index, Some, None}
+use Rattle.std.specs.Prelude.{ℕ, ◌+◌, ◌-◌, ◌*◌, ◌/◌, ◌^◌, Bool, true, false, not, ◌&&◌, ◌||◌, nat_eq, nat_lt, nat_le, List, [], ◌∷◌}
+use Rattle.std.specs.Prelude.{length, slice_index, Some, None}
 use Rattle.std.specs.List.{list_any}
 use Rattle.std.specs.declared.option.Option.{Option}
 use Rattle.irq_base.specs.Refusals.{Reason}
 use Rattle.irq_base.specs.declared.call.Call.{Call}
-use Rattle.irq_base.specs.declared.call.Call.TheVariants.{Line, Msi, Write, Take, Assign, Deassign, Reroute, Attach, Detach, Watch, Unwatch, PortOut, PortIn, Store, Load}
+use Rattle.irq_base.specs.declared.call.Call.TheVariants.{Line, Msi, Write, Take, Assign, Deassign, Reroute, Attach, Detach, Watch}
+use Rattle.irq_base.specs.declared.call.Call.TheVariants.{Unwatch, PortOut, PortIn, Store, Load}
 use Rattle.irq_base.specs.declared.call.Space.{Space}
 use Rattle.irq_base.specs.declared.call.Space.TheVariants.{Port, Memory}
-use Rattle.irq_base.specs.declared.refusal.Refusal.TheVariants.{NoGsi, NoCounter, Busy, RoleClash, Full, Exists, NotThere, BadRange, ChipAddress, Over, BadCount, NoLine, BadMsi}
+use Rattle.irq_base.specs.declared.refusal.Refusal.TheVariants.{NoGsi, NoCounter, Busy, RoleClash, Full, Exists, NotThere, BadRange}
+use Rattle.irq_base.specs.declared.refusal.Refusal.TheVariants.{ChipAddress, Over, BadCount, NoLine, BadMsi}
 use Rattle.irq_base.specs.declared.shape.Shape.{Shape}
 use Rattle.irqfd_set.specs.declared.irqfds.Irqfd.{Irqfd}
 use Rattle.irqfd_set.specs.Rows.{has_trigger}

@@ -1,6 +1,7 @@
 -- What the calls of lines, messages, counters and registrations do (KVM_IRQ_LINE, KVM_SIGNAL_MSI, eventfd(2), KVM_IRQFD,
 -- KVM_SET_GSI_ROUTING, KVM_IOEVENTFD; acknowledge notifiers are this board's own rule).
-use Rattle.std.specs.Prelude.{ℕ, Bool, true, false, not, ◌&&◌, nat_eq, nat_lt, if◌then◌else◌, List, [], ◌∷◌, ◌++◌, slice_index, is_some, Some, None}
+use Rattle.std.specs.Prelude.{ℕ, Bool, true, false, not, ◌&&◌, nat_eq, nat_lt, if◌then◌else◌, List, [], ◌∷◌, ◌++◌, slice_index}
+use Rattle.std.specs.Prelude.{is_some, Some, None}
 use Rattle.std.specs.declared.option.Option.{Option}
 use Rattle.std.specs.FinSet as set
 use Rattle.irq_base.specs.Refusals.{Reason, first_of}

@@ -12,7 +12,8 @@ Agrees q b = (p : Part) (v : ValueOf p) → part_in q p ≡ Some v → part_in (
 
 -- a run on the parts in hand gave what the board gives: value, log, wishes left and parts; it holds the same parts after it
 -- as before, and it held all that it reached
-pub record GivesAsBoard {A : Type 0} (given : A) (shown : Log) (left : Parts) (later : Wishes) (o : Outcome A) (q : Parts) (reach : Part → Bool) : Type 0 where
+pub record GivesAsBoard {A : Type 0} (given : A) (shown : Log) (left : Parts) (later : Wishes)
+    (o : Outcome A) (q : Parts) (reach : Part → Bool) : Type 0 where
   pub value : given ≡ o.value
   pub log : shown ≡ o.log
   pub wishes : later ≡ o.wishes

@@ -30,7 +30,9 @@ AgreeingAlike A = (m : Plan A) (b c : Board) (ws : Wishes) → AgreesOnReach m b
 
 -- the events and answers of a run decide its value, its sendings and the board after it, whatever was wished
 abbrev pub ShownDecides : Type 0 → Type 0
-ShownDecides A = (m : Plan A) (b : Board) (ws vs : Wishes) → (run m b ws).log.events ≡ (run m b vs).log.events → (run m b ws).log.answers ≡ (run m b vs).log.answers → SameOutcome (run m b ws) (run m b vs)
+ShownDecides A =
+    (m : Plan A) (b : Board) (ws vs : Wishes) → (run m b ws).log.events ≡ (run m b vs).log.events
+    → (run m b ws).log.answers ≡ (run m b vs).log.answers → SameOutcome (run m b ws) (run m b vs)
 
 -- on parts in hand of the board a plan gives as the board, or it lacks a part that is reached and is not in hand
 abbrev pub ExactOnParts : Type 0 → Type 0
@@ -38,7 +40,8 @@ ExactOnParts A = (m : Plan A) (q : Parts) (b : Board) (ws : Wishes) → Agrees q
 
 -- on parts in hand of the board a plan lacks a part exactly where it reaches one that is not in hand
 abbrev pub LackingExactly : Type 0 → Type 0
-LackingExactly A = (m : Plan A) (q : Parts) (b : Board) (ws : Wishes) → Agrees q b → IsLacking (run_on m q ws) ↔ ReachesPast q (reaches m b ws)
+LackingExactly A =
+    (m : Plan A) (q : Parts) (b : Board) (ws : Wishes) → Agrees q b → IsLacking (run_on m q ws) ↔ ReachesPast q (reaches m b ws)
 
 -- on any parts in hand a plan lacks only a part that is not in hand
 abbrev pub LackingIsNotHeld : Type 0 → Type 0
@@ -46,7 +49,9 @@ LackingIsNotHeld A = (m : Plan A) (q : Parts) (ws : Wishes) (p : Part) → run_o
 
 -- a steady plan run again under the wishes that its log shows gives the same value, log and board
 abbrev pub ShownFollowed : Type 0 → Type 0
-ShownFollowed A = (m : Plan A) (b : Board) (ws : Wishes) → IsSteady m → SameOutcome (run m b (shown_wishes (run m b ws).log.sendings)) (run m b ws)
+ShownFollowed A =
+    (m : Plan A) (b : Board) (ws : Wishes) → IsSteady m
+    → SameOutcome (run m b (shown_wishes (run m b ws).log.sendings)) (run m b ws)
 
 -- a plan and then another, on a board: the one and then the other
 abbrev pub RunInSequence : Type 0 → Type 0 → Type 0
@@ -58,7 +63,9 @@ RunOnInSequence A B = (m : Plan A) (f : A → Plan B) (q : Parts) (ws : Wishes) 
 
 -- a plan and then another reach what the one reaches, and what the other then reaches
 abbrev pub ReachesInSequence : Type 0 → Type 0 → Type 0
-ReachesInSequence A B = (m : Plan A) (f : A → Plan B) (b : Board) (ws : Wishes) (q : Part) → reaches (m >>= f) b ws q ≡ (reaches m b ws q || reaches (f (run m b ws).value) (run m b ws).board (run m b ws).wishes q)
+ReachesInSequence A B =
+    (m : Plan A) (f : A → Plan B) (b : Board) (ws : Wishes) (q : Part) → reaches (m >>= f) b ws q
+    ≡ (reaches m b ws q || reaches (f (run m b ws).value) (run m b ws).board (run m b ws).wishes q)
 
 -- the status of a sending shows the sets that it reached
 abbrev pub StatusShowsSets : Type 0
@@ -67,7 +74,8 @@ StatusShowsSets = (pic : Option TargetAnswer) (sent : Sent) → sets_of (status_
 -- a chip's part is what its chip makes of it, and a chip comes out as it was put in where its pins are those that are held
 pub record PinsFollowHolds : Type 0 where
   pub pic : (part : PicPart) → with_pair part (pair_of part) ≡ part
-  pub pair : (part : PicPart) (pair : Pair) → pair.master.high ≡ master_high part.holds → pair.slave.high ≡ slave_high part.holds → pair_of (with_pair part pair) ≡ pair
+  pub pair : (part : PicPart) (pair : Pair) → pair.master.high ≡ master_high part.holds → pair.slave.high ≡ slave_high part.holds
+      → pair_of (with_pair part pair) ≡ pair
   pub ioapic : (part : IoapicPart) → with_ioapic part (ioapic_of part) ≡ part
   pub chip : (part : IoapicPart) (chip : Ioapic) → chip.high ≡ ioapic_high part.holds → ioapic_of (with_ioapic part chip) ≡ chip
 
@@ -97,4 +105,7 @@ PublishedDecidesTheTable =
 
 -- two sound registries that publish the same words have one routing
 abbrev pub PublishedDecides : Type 0
-PublishedDecides = (registry other : RegistryPart) (tick other_tick : ℕ) → IsSoundRegistry registry tick → IsSoundRegistry other other_tick → published registry tick ≡ published other other_tick → routing_of_registry registry tick ≡ routing_of_registry other other_tick
+PublishedDecides =
+    (registry other : RegistryPart) (tick other_tick : ℕ) → IsSoundRegistry registry tick → IsSoundRegistry other other_tick
+    → published registry tick ≡ published other other_tick
+    → routing_of_registry registry tick ≡ routing_of_registry other other_tick

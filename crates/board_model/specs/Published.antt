@@ -1,6 +1,7 @@
 -- The words in which the routing of a board is published, in this board's own format: 4,096 words of GSIs, 256 of triggers,
 -- 16 of the pins of the 8259A pair and 24 of those of the I/O APIC.
-use Rattle.std.specs.Prelude.{◌≡◌, ℕ, ◌+◌, ◌*◌, ◌^◌, ◌<◌, zero, suc, nat_eq, nat_lt, if◌then◌else◌, List, [], ◌∷◌, ◌++◌, slice_index, All, IsTrue, Some, None}
+use Rattle.std.specs.Prelude.{◌≡◌, ℕ, ◌+◌, ◌*◌, ◌^◌, ◌<◌, zero, suc, nat_eq, nat_lt, if◌then◌else◌, List, [], ◌∷◌, ◌++◌, slice_index}
+use Rattle.std.specs.Prelude.{All, IsTrue, Some, None}
 use Rattle.std.specs.declared.option.Option.{Option}
 use Rattle.irq_base.specs.declared.call.Row.{Row}
 use Rattle.irq_base.specs.declared.event.Pin.{Pin}
@@ -23,7 +24,11 @@ trigger_word (Some trigger) = 1 + trigger.gsi * 2 + (if trigger.resample then 2 
 
 -- what a word tells of a trigger
 abbrev pub trigger_in : ℕ → Option TriggerWord
-trigger_in word = if nat_eq (bits_of word 0 0) 1 then Some (record { gsi = bits_of word 12 1; resample = nat_eq (bits_of word 13 13) 1 }) else None
+trigger_in word =
+    if nat_eq (bits_of word 0 0) 1 then Some (record {
+      gsi = bits_of word 12 1;
+      resample = nat_eq (bits_of word 13 13) 1;
+    }) else None
 
 -- ---- the word of a pin
 

@@ -1,6 +1,7 @@
 -- Redirection entries: their words, the writes of their halves, and the message of an entry.
 -- 82093AA data sheet, I/O redirection table registers.
-use Rattle.std.specs.Prelude.{◌≡◌, ℕ, ◌+◌, ◌*◌, ◌/◌, ◌%◌, ◌^◌, ◌<◌, Bool, true, false, not, ◌&&◌, nat_eq, if◌then◌else◌, List, slice_index_or}
+use Rattle.std.specs.Prelude.{◌≡◌, ℕ, ◌+◌, ◌*◌, ◌/◌, ◌%◌, ◌^◌, ◌<◌, Bool, true, false, not, ◌&&◌, nat_eq, if◌then◌else◌, List}
+use Rattle.std.specs.Prelude.{slice_index_or}
 use Rattle.std.specs.FinSet as set
 use Rattle.irq_bits.specs.Members.{Numbers, is_set}
 use Rattle.irq_base.specs.declared.message.Message.{Message}

@@ -1,6 +1,7 @@
 -- The I/O APIC whole: accesses, pins, sends and acknowledges.
 -- 82093AA data sheet, and SDM volume 3, level-triggered interrupts and EOI.
-use Rattle.std.specs.Prelude.{◌≡◌, ℕ, ◌*◌, ◌/◌, ◌%◌, ◌^◌, Bool, false, not, ◌&&◌, ◌||◌, nat_eq, if◌then◌else◌, Some, None, map, replicate, slice_set}
+use Rattle.std.specs.Prelude.{◌≡◌, ℕ, ◌*◌, ◌/◌, ◌%◌, ◌^◌, Bool, false, not, ◌&&◌, ◌||◌, nat_eq, if◌then◌else◌, Some, None, map}
+use Rattle.std.specs.Prelude.{replicate, slice_set}
 use Rattle.std.specs.declared.option.Option.{Option}
 use Rattle.std.specs.FinSet as set
 use Rattle.irq_base.specs.declared.message.Message.{Message}

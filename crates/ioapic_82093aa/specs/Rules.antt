@@ -22,6 +22,7 @@ pin-word word fits = members_of-word 32 word fits
 
 -- a word and its set are empty together
 pub pin-none : (word : ℕ) → word < 2 ^ 32 → members_of 32 word ≡ set.empty → word ≡ 0
-pin-none word fits e = sym (members_of-word 32 word fits) ∙ ap (word_of 32) (e ∙ sym (members_of-zero 32)) ∙ members_of-word 32 0 (omega arith)
+pin-none word fits e =
+    sym (members_of-word 32 word fits) ∙ ap (word_of 32) (e ∙ sym (members_of-zero 32)) ∙ members_of-word 32 0 (omega arith)
 
 pub ruleset pin_rules = (pin-test, pin-empty, pin-insert, pin-remove, pin-word, pin-none)

@@ -2,7 +2,9 @@
 use Rattle.std.specs.Prelude.{ℕ, Bool, List, [], ◌∷◌, codes, if◌then◌else◌, Some, None}
 use Rattle.std.specs.declared.option.Option.{Option}
 use Rattle.irq_base.specs.declared.refusal.Refusal.{Refusal}
-use Rattle.irq_base.specs.declared.refusal.Refusal.TheVariants.{NoGsi, NoCounter, BadRow, ChipTwice, Mixed, PinTwice, Busy, RoleClash, Full, Exists, NotThere, BadRange, ChipAddress, Over, BadCount, NoLine, BadMsi}
+use Rattle.irq_base.specs.declared.refusal.Refusal.TheVariants.{NoGsi, NoCounter, BadRow, ChipTwice, Mixed, PinTwice, Busy}
+use Rattle.irq_base.specs.declared.refusal.Refusal.TheVariants.{RoleClash, Full, Exists, NotThere, BadRange, ChipAddress, Over}
+use Rattle.irq_base.specs.declared.refusal.Refusal.TheVariants.{BadCount, NoLine, BadMsi}
 
 -- the number
 abbrev pub refusal_number : Refusal → ℕ

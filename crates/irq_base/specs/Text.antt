@@ -34,7 +34,9 @@ cause_text Mode = codes "mode"
 
 -- a set is spelled as its word in hexadecimal
 abbrev pub status_text : Status → List ℕ
-status_text (Delivered new stood pic) = codes "delivered new=" ++ (hex (word_of 64 new) ++ (codes " stood=" ++ (hex (word_of 64 stood) ++ (codes " pic=" ++ decimal (if pic then 1 else 0)))))
+status_text (Delivered new stood pic) =
+    codes "delivered new="
+    ++ (hex (word_of 64 new) ++ (codes " stood=" ++ (hex (word_of 64 stood) ++ (codes " pic=" ++ decimal (if pic then 1 else 0)))))
 status_text (Coalesced stood) = codes "coalesced stood=" ++ hex (word_of 64 stood)
 status_text (Ignored cause) = codes "ignored " ++ cause_text cause
 status_text Lowered = codes "lowered"

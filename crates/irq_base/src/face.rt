@@ -63,7 +63,8 @@ pub trait Face {
         ensures home { home self.new ≡ home self.old }
         ensures place { IsPlaced result (floor self.old) (floor self.new) }
         ensures stops { StopsTell result (stops self.old) (stops self.new) (last self.old) (last self.new) }
-        ensures own { WhereTold (own self.old) (own self.new) (λ before now. now ≡ own_after (who self.old) call.now events.new.items result before) }
+        ensures own { WhereTold (own self.old) (own self.new) (λ before now.
+            now ≡ own_after (who self.old) call.now events.new.items result before) }
         ensures left { WhereTold (left self.old) (left self.new) (LeftFalls result) }
         ensures answers { IfSome (left self.old) (λ left. 0 < left → may_publish call.now ≡ false → IsOk result) }
         ensures barred { IfErr result (λ _. barred self.new call.now) };

@@ -6,8 +6,11 @@ use Rattle.std.proofs.lemmas.Nat.{or_lt}
 use Rattle.std.specs.Int.{Width, bit_not, trailing_zeros, w64}
 use Rattle.std.specs.FinSet as set
 use Rattle.irq_bits.specs.Members.{Numbers, is_set, members_of, word_of, IsLeast, IsGreatest}
-use Rattle.irq_bits.specs.SetLemmas.{contains-set_below, contains-set_below_within, set_below-insert, set_below-remove, set_below-remove_outside, set_below-union, set_below-intersection, set_below-difference, set_below-empty, empty_passes, least_of, greatest_of}
-use Rattle.irq_bits.specs.WordLemmas.{is_set-zero, is_set-or, is_set-and, is_set-minus, is_set-insert, is_set-remove, zero_from_none, lowest_set, is_set_top, clear_above_top, is_set_within}
+use Rattle.irq_bits.specs.SetLemmas.{contains-set_below, contains-set_below_within, set_below-insert, set_below-remove}
+use Rattle.irq_bits.specs.SetLemmas.{set_below-remove_outside, set_below-union, set_below-intersection, set_below-difference}
+use Rattle.irq_bits.specs.SetLemmas.{set_below-empty, empty_passes, least_of, greatest_of}
+use Rattle.irq_bits.specs.WordLemmas.{is_set-zero, is_set-or, is_set-and, is_set-minus, is_set-insert, is_set-remove, zero_from_none}
+use Rattle.irq_bits.specs.WordLemmas.{lowest_set, is_set_top, clear_above_top, is_set_within}
 use Rattle.irq_bits.specs.InverseLemmas.{word_given_back}
 use mir.Val.{bits}
 
@@ -36,17 +39,20 @@ unfolding members_of
 members_of-and size a b = set_below-intersection size _ _ _ (λ n _. is_set-and a b n)
 
 -- `a & !b`
-pub members_of-minus : (size : Width) (a b : ℕ) → b < 2 ^ bits size → members_of (bits size) (bit_and a (bit_not size b)) ≡ set.difference (members_of (bits size) a) (members_of (bits size) b)
+pub members_of-minus : (size : Width) (a b : ℕ) → b < 2 ^ bits size → members_of (bits size) (bit_and a (bit_not size b))
+    ≡ set.difference (members_of (bits size) a) (members_of (bits size) b)
 unfolding members_of
 members_of-minus size a b fits = set_below-difference (bits size) _ _ _ (λ n below. is_set-minus size a b n fits below)
 
 -- `word | 1 << k`
-pub members_of-insert : (size : Width) (word k : ℕ) → k < bits size → members_of (bits size) (bit_or word (1 * 2 ^ k % 2 ^ bits size)) ≡ set.insert (members_of (bits size) word) k
+pub members_of-insert : (size : Width) (word k : ℕ) → k < bits size
+    → members_of (bits size) (bit_or word (1 * 2 ^ k % 2 ^ bits size)) ≡ set.insert (members_of (bits size) word) k
 unfolding members_of
 members_of-insert size word k below = set_below-insert (bits size) k _ _ below (λ n _. is_set-insert size word k n below)
 
 -- `word & !(1 << k)`
-pub members_of-remove : (size : Width) (word k : ℕ) → k < bits size → members_of (bits size) (bit_and word (bit_not size (1 * 2 ^ k % 2 ^ bits size))) ≡ set.remove (members_of (bits size) word) k
+pub members_of-remove : (size : Width) (word k : ℕ) → k < bits size
+    → members_of (bits size) (bit_and word (bit_not size (1 * 2 ^ k % 2 ^ bits size))) ≡ set.remove (members_of (bits size) word) k
 unfolding members_of
 members_of-remove size word k below = set_below-remove (bits size) k _ _ (λ n in_word. is_set-remove size word k n below in_word)
 
@@ -65,13 +71,15 @@ unfolding members_of
 zero_from_empty word fits e = zero_from_none word fits (λ n below. empty_passes 64 (is_set word) n e below)
 
 -- the lowest bit of a word is the least member, the highest the greatest
-pub least_member : (size : Width) (word : ℕ) → word < 2 ^ bits size → 0 < word → IsLeast (members_of (bits size) word) (trailing_zeros size word)
+pub least_member : (size : Width) (word : ℕ) → word < 2 ^ bits size → 0 < word
+    → IsLeast (members_of (bits size) word) (trailing_zeros size word)
 unfolding members_of
 least_member size word fits some = let low = lowest_set size word fits some in least_of (bits size) (is_set word) _ low.0 low.1 low.2
 
 pub greatest_member : (size word k : ℕ) → k < size → 2 ^ k ≤ word → word < 2 * 2 ^ k → IsGreatest (members_of size word) k
 unfolding members_of
-greatest_member size word k below low high = greatest_of size (is_set word) k below (is_set_top word k low high) (λ n on. clear_above_top word k n high on)
+greatest_member size word k below low high =
+    greatest_of size (is_set word) k below (is_set_top word k low high) (λ n on. clear_above_top word k n high on)
 
 -- ---- the same at 64 bits, as rules
 
@@ -112,4 +120,18 @@ cpu-remove_outside word k outside = members_of-remove_outside 64 word k outside
 pub cpu-word : (word : ℕ) → word < 2 ^ 64 → word_of 64 (members_of 64 word) ≡ word
 cpu-word word fits = members_of-word 64 word fits
 
-pub ruleset cpu_rules = (cpu-test, cpu-outside, cpu-empty, cpu-union, cpu-insert, cpu-remove, cpu-remove_outside, cpu-word, cpu-bit, cpu-or_fits, cpu-least, cpu-greatest, zero_from_empty)
+pub ruleset cpu_rules = (
+  cpu-test,
+  cpu-outside,
+  cpu-empty,
+  cpu-union,
+  cpu-insert,
+  cpu-remove,
+  cpu-remove_outside,
+  cpu-word,
+  cpu-bit,
+  cpu-or_fits,
+  cpu-least,
+  cpu-greatest,
+  zero_from_empty,
+)

@@ -4,7 +4,8 @@ use Rattle.std.specs.declared.option.Option.{Option}
 use Rattle.irq_bits.specs.Members.{row_of, greatest_vector}
 use Rattle.reg_table.specs.declared.row.RegRow.{RegRow}
 use Rattle.lapic.specs.declared.register.Register.{Register}
-use Rattle.lapic.specs.declared.register.Register.TheVariants.{Id, Tpr, Ppr, Eoi, Ldr, Dfr, Svr, Isr, Tmr, Irr, Esr, IcrLow, IcrHigh, Lint0, Lint1}
+use Rattle.lapic.specs.declared.register.Register.TheVariants.{Id, Tpr, Ppr, Eoi, Ldr, Dfr, Svr, Isr, Tmr, Irr, Esr, IcrLow, IcrHigh}
+use Rattle.lapic.specs.declared.register.Register.TheVariants.{Lint0, Lint1}
 use Rattle.lapic.specs.declared.outcome.Effect.{Effect}
 use Rattle.lapic.specs.declared.outcome.Effect.TheVariants.{Plain, Ended, Send}
 use Rattle.lapic.specs.Registers.{Registers, LocalApic, row_for, reset_of, register_at, register_rows, power_on}

@@ -7,7 +7,8 @@ use Rattle.std.specs.FinSet as set
 use Rattle.irq_bits.specs.Members.{Numbers, numbers_code, is_set}
 use Rattle.reg_table.specs.declared.row.RegRow.{RegRow}
 use Rattle.lapic.specs.declared.register.Register.{Register}
-use Rattle.lapic.specs.declared.register.Register.TheVariants.{Id, Version, Tpr, Ppr, Eoi, Ldr, Dfr, Svr, Isr, Tmr, Irr, Esr, Cmci, IcrLow, IcrHigh, Timer, Thermal, Performance, Lint0, Lint1, Error}
+use Rattle.lapic.specs.declared.register.Register.TheVariants.{Id, Version, Tpr, Ppr, Eoi, Ldr, Dfr, Svr, Isr, Tmr, Irr, Esr, Cmci}
+use Rattle.lapic.specs.declared.register.Register.TheVariants.{IcrLow, IcrHigh, Timer, Thermal, Performance, Lint0, Lint1, Error}
 
 -- the registers that are written, each by the value that a load gives, and the errors recorded since ESR was last written
 pub record Registers : Type 0 where
@@ -107,7 +108,15 @@ registers_at_power_on number = record {
 
 -- the APIC of processor `number` at power-on
 abbrev pub power_on : ℕ → LocalApic
-power_on number = record { number = number; irr = set.empty; isr = set.empty; tmr = set.empty; nmi = false; registers = registers_at_power_on number }
+power_on number =
+    record {
+      number = number;
+      irr = set.empty;
+      isr = set.empty;
+      tmr = set.empty;
+      nmi = false;
+      registers = registers_at_power_on number;
+    }
 
 -- whether the APIC is enabled: bit 8 of SVR
 abbrev pub is_enabled : LocalApic → Bool
@@ -117,7 +126,8 @@ is_enabled a = is_set a.registers.svr 8
 abbrev pub registers_code : Coded Registers
 registers_code =
     code_by (ℕ × (ℕ × (ℕ × (ℕ × (ℕ × (ℕ × (ℕ × (ℕ × (ℕ × ℕ)))))))))
-    (coded× coded_ℕ (coded× coded_ℕ (coded× coded_ℕ (coded× coded_ℕ (coded× coded_ℕ (coded× coded_ℕ (coded× coded_ℕ (coded× coded_ℕ (coded× coded_ℕ coded_ℕ)))))))))
+    (coded× coded_ℕ (coded× coded_ℕ (coded× coded_ℕ (coded× coded_ℕ (coded× coded_ℕ
+    (coded× coded_ℕ (coded× coded_ℕ (coded× coded_ℕ (coded× coded_ℕ coded_ℕ)))))))))
     (λ r. (r.tpr, (r.ldr, (r.dfr, (r.svr, (r.esr, (r.errors, (r.icr_low, (r.icr_high, (r.lint0, r.lint1))))))))))
     (λ p. record {
       tpr = p.0;

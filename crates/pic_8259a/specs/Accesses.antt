@@ -134,7 +134,8 @@ odd_written c value = odd_written_by c.expects c value
 
 -- a word at the even port: ICW1 by bit 4, OCW3 by bit 3, else OCW2
 abbrev pub even_written : Chip → ℕ → Effect Chip
-even_written c value = if is_set value 4 then quietly (initialised c value) else if is_set value 3 then quietly (controlled c value) else commanded c value
+even_written c value =
+    if is_set value 4 then quietly (initialised c value) else if is_set value 3 then quietly (controlled c value) else commanded c value
 
 -- ---- reads
 
@@ -157,7 +158,8 @@ polled c place = polled_by (top_of c place) c
 
 -- a read of the even port: the poll that is pending, else the levels in service or the requests
 abbrev pub even_read : Chip → Place → Read Chip
-even_read c place = if c.poll_pending then polled c place else plainly c (if c.reads_isr then byte_of c.isr else byte_of (requests_of c place))
+even_read c place =
+    if c.poll_pending then polled c place else plainly c (if c.reads_isr then byte_of c.isr else byte_of (requests_of c place))
 
 -- a read of the odd port: the poll that is pending, else the mask
 abbrev pub odd_read : Chip → Place → Read Chip

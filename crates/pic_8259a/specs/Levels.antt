@@ -16,7 +16,8 @@ byte_of levels = word_of 8 levels
 -- the levels as priority falls: from the one after the lowest, round to the lowest
 abbrev pub order : ℕ → List ℕ
 order lowest =
-    (lowest + 1) % 8 ∷ (lowest + 2) % 8 ∷ (lowest + 3) % 8 ∷ (lowest + 4) % 8 ∷ (lowest + 5) % 8 ∷ (lowest + 6) % 8 ∷ (lowest + 7) % 8 ∷ (lowest + 8) % 8 ∷ []
+    (lowest + 1) % 8 ∷ (lowest + 2) % 8 ∷ (lowest + 3) % 8 ∷ (lowest + 4) % 8
+    ∷ (lowest + 5) % 8 ∷ (lowest + 6) % 8 ∷ (lowest + 7) % 8 ∷ (lowest + 8) % 8 ∷ []
 
 -- whether k stands in the list, and no later than n
 abbrev pub comes_by : List ℕ → ℕ → ℕ → Bool

@@ -1,7 +1,8 @@
 -- The pair of 8259As: its ports, its sixteen pins and its acknowledge cycle.
 -- 8259A data sheet, cascade mode and the interrupt sequence; the ports are those of the PC, the edge/level registers
 -- those of the PIIX chips.
-use Rattle.std.specs.Prelude.{◌≡◌, ℕ, ◌+◌, ◌%◌, Bool, ◌||◌, nat_eq, nat_lt, is_some, if◌then◌else◌, Some, None, List, [], ◌∷◌, map, ◌<◌, IfSome}
+use Rattle.std.specs.Prelude.{◌≡◌, ℕ, ◌+◌, ◌%◌, Bool, ◌||◌, nat_eq, nat_lt, is_some, if◌then◌else◌, Some, None, List, [], ◌∷◌, map}
+use Rattle.std.specs.Prelude.{◌<◌, IfSome}
 use Rattle.std.specs.declared.option.Option.{Option}
 use Rattle.std.specs.FinSet as set
 use Rattle.reg_table.specs.Rows.{resets}
@@ -9,7 +10,8 @@ use Rattle.reg_table.specs.declared.row.RegRow.{RegRow}
 use Rattle.pic_8259a.specs.Levels.{levels_of, byte_of}
 use Rattle.pic_8259a.specs.Chip.{chip_at_power_on}
 use Rattle.pic_8259a.specs.Priority.{top_of}
-use Rattle.pic_8259a.specs.Accesses.{Effect, Read, quietly, plainly, level_acknowledged, even_written, odd_written, elcr_written, even_read, odd_read, with_pin, outcome_of}
+use Rattle.pic_8259a.specs.Accesses.{Effect, Read, quietly, plainly, level_acknowledged, even_written, odd_written, elcr_written}
+use Rattle.pic_8259a.specs.Accesses.{even_read, odd_read, with_pin, outcome_of}
 use Rattle.pic_8259a.specs.declared.chip.Chip.{Chip}
 use Rattle.pic_8259a.specs.declared.chip.Place.{Place}
 use Rattle.pic_8259a.specs.declared.chip.Place.TheVariants.{Slave, Master}
@@ -42,7 +44,8 @@ slave_pin None = None
 slave_pin (Some level) = Some (8 + level)
 
 abbrev pub pin_set : Pair → ℕ → Bool → Pair
-pin_set p pin high = if nat_lt pin 8 then record p { master = with_pin p.master pin high } else record p { slave = with_pin p.slave (pin % 8) high }
+pin_set p pin high =
+    if nat_lt pin 8 then record p { master = with_pin p.master pin high } else record p { slave = with_pin p.slave (pin % 8) high }
 
 abbrev pub pin_outcome : Pair → ℕ → Bool → PinOutcome
 pin_outcome p pin high = if nat_lt pin 8 then outcome_of p.master pin high else outcome_of p.slave (pin % 8) high

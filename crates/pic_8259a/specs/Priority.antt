@@ -40,7 +40,8 @@ is_inhibited special order inhibitors n = list_any (λ k. set.contains inhibitor
 -- a level is ready where it requests, is not masked and is not inhibited
 abbrev pub is_ready : Chip → Place → ℕ → Bool
 is_ready c place n =
-    set.contains (requests_of c place) n && (not (set.contains c.imr n) && not (is_inhibited (nests_specially c place) (order c.lowest) (inhibitors_of c) n))
+    set.contains (requests_of c place) n
+    && (not (set.contains c.imr n) && not (is_inhibited (nests_specially c place) (order c.lowest) (inhibitors_of c) n))
 
 -- the top: the ready level of highest priority
 unfoldable pub top_of : Chip → Place → Option ℕ
@@ -53,4 +54,5 @@ IsTop c place (Some t) = (is_ready c place t ≡ true) × ((n : ℕ) → n < 8 �
 
 -- the level of highest priority that asks and is not inhibited
 unfoldable pub first_free : Bool → ℕ → Numbers → Numbers → Option ℕ
-first_free special lowest asking inhibitors = find (λ n. set.contains asking n && not (is_inhibited special (order lowest) inhibitors n)) (order lowest)
+first_free special lowest asking inhibitors =
+    find (λ n. set.contains asking n && not (is_inhibited special (order lowest) inhibitors n)) (order lowest)

@@ -3,7 +3,8 @@ use Rattle.std.proofs.Common.{◌≡◌, ℕ, ◌*◌, ◌/◌, ◌%◌, ◌^◌
 use Rattle.std.specs.Int.{w8, bit_not}
 use Rattle.std.specs.FinSet as set
 use Rattle.irq_bits.specs.Members.{members_of, word_of}
-use Rattle.irq_bits.specs.Words.{members_of-test, members_of-zero, members_of-or, members_of-and, members_of-minus, members_of-insert, members_of-remove, members_of-word}
+use Rattle.irq_bits.specs.Words.{members_of-test, members_of-zero, members_of-or, members_of-and, members_of-minus}
+use Rattle.irq_bits.specs.Words.{members_of-insert, members_of-remove, members_of-word}
 
 pub level-test : (byte k : ℕ) → k < 8 → set.contains (members_of 8 byte) k ≡ nat_eq (bit_and (byte / 2 ^ k) 1) 1
 level-test byte k below = members_of-test 8 byte k below
@@ -29,4 +30,5 @@ level-remove byte k below = members_of-remove w8 byte k below
 pub level-byte : (byte : ℕ) → byte < 2 ^ 8 → word_of 8 (members_of 8 byte) ≡ byte
 level-byte byte fits = members_of-word 8 byte fits
 
-pub ruleset level_rules = (level-test, level-empty, level-union, level-intersection, level-difference, level-insert, level-remove, level-byte)
+pub ruleset level_rules =
+    (level-test, level-empty, level-union, level-intersection, level-difference, level-insert, level-remove, level-byte)

@@ -15,7 +15,8 @@ pub fn on_ack(irqfds: &Irqfds, gsi: u16, counters: &mut Counters, events: &mut E
     requires each { All (λ counter. counter < length counters.old) (resampled irqfds.now gsi) }
     ensures counts { counters.new ≡ signalled_all counters.old (resampled irqfds.now gsi) }
     ensures events { events.new.items ≡ with_told events.old.items (resample_events irqfds.now gsi) }
-    ensures all { array_vec_len events.old + length (resampled irqfds.now gsi) ≤ 640 → events.new.items ≡ events.old.items ++ resample_events irqfds.now gsi }
+    ensures all { array_vec_len events.old + length (resampled irqfds.now gsi) ≤ 640 → events.new.items ≡ events.old.items
+        ++ resample_events irqfds.now gsi }
 {
     for row in irqfds.rows() {
         if let Some(counter) = resample_of(row, gsi) {

@@ -1,4 +1,5 @@
--- Where the published words of a board stand: 4,096 words of GSIs, 256 of triggers, 16 of the pins of the 8259A pair and 24 of those of the I/O APIC. The format is this board's own
+-- Where the published words of a board stand: 4,096 words of GSIs, 256 of triggers, 16 of the pins of the 8259A pair and 24 of
+-- those of the I/O APIC. The format is this board's own
 use Rattle.std.specs.Prelude.{ℕ, ◌+◌, ◌<◌, List, [], All}
 use Rattle.irq_base.specs.declared.event.Pin.{Pin}
 use Rattle.irq_base.specs.declared.event.Pin.TheVariants.{Pic, Ioapic}

@@ -12,8 +12,10 @@ use Rattle.route_bank.specs.Indices.{index_of_trigger, index_of_pin}
 
 -- the word of each GSI, trigger and pin stands at its index
 pub record WordsStand (registry : RegistryPart) (tick : ℕ) : Type 0 where
-  pub gsis : (gsi : ℕ) → gsi < 4096 → slice_get (published registry tick) gsi ≡ Some (targets_word (targets_of registry.table gsi) (is_marked registry tick gsi))
-  pub triggers : (trigger : ℕ) → trigger < 256 → slice_get (published registry tick) (index_of_trigger trigger) ≡ Some (trigger_word (option_map trigger_of (of_trigger registry.irqfds trigger)))
+  pub gsis : (gsi : ℕ) → gsi < 4096 → slice_get (published registry tick) gsi
+      ≡ Some (targets_word (targets_of registry.table gsi) (is_marked registry tick gsi))
+  pub triggers : (trigger : ℕ) → trigger < 256 → slice_get (published registry tick) (index_of_trigger trigger)
+      ≡ Some (trigger_word (option_map trigger_of (of_trigger registry.irqfds trigger)))
   pub pins : (pin : Pin) → IsPin pin → slice_get (published registry tick) (index_of_pin pin) ≡ Some (pin_word (gsi_of registry.table pin))
 
 abbrev pub WordsStandAtIndices : Type 0

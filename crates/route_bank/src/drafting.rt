@@ -23,7 +23,8 @@ pub fn draft<M: Machine>(
     ensures knows { is_some (view_of pen.new.seat).knows ≡ true }
     ensures bank { IsSpareBank book.now.table.shared.table_id.slots book.now.width (view_of pen.new.seat) bank.begin }
     ensures drafted { draft_at index (view_of pen.new.seat).drafts ≡ Some value }
-    ensures others { (i : ℕ) → nat_eq index i ≡ false → draft_at i (view_of pen.new.seat).drafts ≡ draft_at i (view_of pen.old.seat).drafts }
+    ensures others { (i : ℕ) → nat_eq index i ≡ false → draft_at i (view_of pen.new.seat).drafts
+        ≡ draft_at i (view_of pen.old.seat).drafts }
     ensures rest { ChangesDrafts (view_of pen.old.seat) (view_of pen.new.seat) }
     ensures slots { slots_of pen.new.seat ≡ slots_of pen.old.seat }
 {

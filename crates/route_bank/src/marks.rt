@@ -22,7 +22,8 @@ fn clear(marks: &mut [bool])
 fn mark_resamplers(marks: &mut [bool], irqfds: &[Irqfd])
     requires range { All (λ (row : IrqfdRow). row.gsi < length marks.old) irqfds.now }
     ensures long { length marks.new ≡ length marks.old }
-    ensures marked { (gsi : ℕ) → gsi < length marks.new → get_or marks.new gsi false ≡ (get_or marks.old gsi false || has_resampler irqfds.now gsi) }
+    ensures marked { (gsi : ℕ) → gsi < length marks.new → get_or marks.new gsi false
+        ≡ (get_or marks.old gsi false || has_resampler irqfds.now gsi) }
 {
     for row in irqfds {
         marks[row.gsi as usize] |= row.resample.is_some();
@@ -33,7 +34,8 @@ fn mark_resamplers(marks: &mut [bool], irqfds: &[Irqfd])
 fn mark_watches(marks: &mut [bool], watches: &[Watch])
     requires range { All (λ (row : WatchRow). row.gsi < length marks.old) watches.now }
     ensures long { length marks.new ≡ length marks.old }
-    ensures marked { (gsi : ℕ) → gsi < length marks.new → get_or marks.new gsi false ≡ (get_or marks.old gsi false || has_watch watches.now gsi) }
+    ensures marked { (gsi : ℕ) → gsi < length marks.new → get_or marks.new gsi false
+        ≡ (get_or marks.old gsi false || has_watch watches.now gsi) }
 {
     for row in watches {
         marks[row.gsi as usize] = true;
@@ -46,7 +48,8 @@ pub fn mark(marks: &mut [bool], irqfds: &[Irqfd], watches: &[Watch], tick: u16)
     requires watches { All (λ (row : WatchRow). row.gsi < length marks.old) watches.now }
     requires tick { tick < length marks.old }
     ensures long { length marks.new ≡ length marks.old }
-    ensures marked { (gsi : ℕ) → gsi < length marks.new → get_or marks.new gsi false ≡ (has_resampler irqfds.now gsi || (has_watch watches.now gsi || nat_eq gsi tick)) }
+    ensures marked { (gsi : ℕ) → gsi < length marks.new → get_or marks.new gsi false
+        ≡ (has_resampler irqfds.now gsi || (has_watch watches.now gsi || nat_eq gsi tick)) }
 {
     clear(marks);
     mark_resamplers(marks, irqfds);

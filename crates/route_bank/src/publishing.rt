@@ -59,7 +59,8 @@ fn draft_gsis<M: Machine>(
     ensures book { pen.new.seat.table_id ≡ pen.old.seat.table_id }
     ensures knows { is_some (view_of pen.new.seat).knows ≡ true }
     ensures bank { IsSpareBank book.now.table.shared.table_id.slots book.now.width (view_of pen.new.seat) bank.begin }
-    ensures drafted { HasFrom 0 4096 (λ gsi. targets_word (targets_of table.now gsi) (get_or marks.now gsi false)) (view_of pen.new.seat).drafts }
+    ensures drafted { HasFrom 0 4096 (λ gsi.
+        targets_word (targets_of table.now gsi) (get_or marks.now gsi false)) (view_of pen.new.seat).drafts }
     ensures rest { ChangesDrafts (view_of pen.old.seat) (view_of pen.new.seat) }
     ensures slots { slots_of pen.new.seat ≡ slots_of pen.old.seat }
 {
@@ -83,7 +84,8 @@ fn draft_triggers<M: Machine>(
     ensures book { pen.new.seat.table_id ≡ pen.old.seat.table_id }
     ensures knows { is_some (view_of pen.new.seat).knows ≡ true }
     ensures bank { IsSpareBank book.now.table.shared.table_id.slots book.now.width (view_of pen.new.seat) bank.begin }
-    ensures drafted { HasFrom 4096 256 (λ trigger. trigger_word (option_map trigger_of (of_trigger irqfds.now trigger))) (view_of pen.new.seat).drafts }
+    ensures drafted { HasFrom 4096 256 (λ trigger.
+        trigger_word (option_map trigger_of (of_trigger irqfds.now trigger))) (view_of pen.new.seat).drafts }
     ensures below { SameBelow 4096 (view_of pen.old.seat).drafts (view_of pen.new.seat).drafts }
     ensures rest { ChangesDrafts (view_of pen.old.seat) (view_of pen.new.seat) }
     ensures slots { slots_of pen.new.seat ≡ slots_of pen.old.seat }

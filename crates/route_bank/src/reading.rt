@@ -31,7 +31,8 @@ pub fn targets_word<M: Machine>(book: &TurnBook<M>, pen: &mut Pen<M>, gsi: u16) 
     requires width { book.now.width ≡ 4392 }
     requires gsi { gsi < 4096 }
     ensures book { pen.new.seat.table_id ≡ pen.old.seat.table_id }
-    ensures noted { IfSome (last_of (view_of pen.old.seat).looks) (λ had. view_of pen.new.seat ≡ noted_view gsi result had.generation (view_of pen.old.seat)) }
+    ensures noted { IfSome (last_of (view_of pen.old.seat).looks) (λ had. view_of pen.new.seat
+        ≡ noted_view gsi result had.generation (view_of pen.old.seat)) }
     ensures slots { slots_of pen.new.seat ≡ slots_of pen.old.seat }
 {
     book.word(pen, u32::from(gsi))
@@ -48,7 +49,8 @@ pub fn trigger_word<M: Machine>(book: &TurnBook<M>, pen: &mut Pen<M>, trigger: u
     requires width { book.now.width ≡ 4392 }
     requires trigger { trigger < 256 }
     ensures book { pen.new.seat.table_id ≡ pen.old.seat.table_id }
-    ensures noted { IfSome (last_of (view_of pen.old.seat).looks) (λ had. view_of pen.new.seat ≡ noted_view (index_of_trigger trigger) result had.generation (view_of pen.old.seat)) }
+    ensures noted { IfSome (last_of (view_of pen.old.seat).looks) (λ had. view_of pen.new.seat
+        ≡ noted_view (index_of_trigger trigger) result had.generation (view_of pen.old.seat)) }
     ensures slots { slots_of pen.new.seat ≡ slots_of pen.old.seat }
 {
     book.word(pen, 4096 + u32::from(trigger))
@@ -64,7 +66,8 @@ pub fn pin_word<M: Machine>(book: &TurnBook<M>, pen: &mut Pen<M>, pin: Pin) -> u
     requires width { book.now.width ≡ 4392 }
     requires pin { IsPin pin }
     ensures book { pen.new.seat.table_id ≡ pen.old.seat.table_id }
-    ensures noted { IfSome (last_of (view_of pen.old.seat).looks) (λ had. view_of pen.new.seat ≡ noted_view (index_of_pin pin) result had.generation (view_of pen.old.seat)) }
+    ensures noted { IfSome (last_of (view_of pen.old.seat).looks) (λ had. view_of pen.new.seat
+        ≡ noted_view (index_of_pin pin) result had.generation (view_of pen.old.seat)) }
     ensures slots { slots_of pen.new.seat ≡ slots_of pen.old.seat }
 {
     book.word(pen, index_of_pin(pin))

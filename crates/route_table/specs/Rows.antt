@@ -1,6 +1,7 @@
 -- The rows of a routing table (KVM_SET_GSI_ROUTING), the rules that they keep, which are this board's own, and the table that
 -- they make.
-use Rattle.std.specs.Prelude.{ℕ, ◌/◌, ◌^◌, zero, suc, Bool, true, false, not, ◌&&◌, ◌||◌, nat_eq, nat_lt, if◌then◌else◌, List, [], ◌∷◌, ◌++◌, length, Some, None}
+use Rattle.std.specs.Prelude.{ℕ, ◌/◌, ◌^◌, zero, suc, Bool, true, false, not, ◌&&◌, ◌||◌, nat_eq, nat_lt, if◌then◌else◌, List, []}
+use Rattle.std.specs.Prelude.{◌∷◌, ◌++◌, length, Some, None}
 use Rattle.std.specs.List.{list_any}
 use Rattle.std.specs.Option.{option_or, unwrap_or, is_some}
 use Rattle.std.specs.FinMap as map
@@ -101,7 +102,8 @@ first_given f gsi (row ∷ rows) = option_or (if is_of gsi row then f row else N
 
 -- where rows send a GSI
 abbrev pub targets_by : List Row → ℕ → Targets
-targets_by rows gsi = record { pic = first_given pic_in gsi rows; ioapic = first_given ioapic_in gsi rows; msi = first_given msi_in gsi rows }
+targets_by rows gsi =
+    record { pic = first_given pic_in gsi rows; ioapic = first_given ioapic_in gsi rows; msi = first_given msi_in gsi rows }
 
 -- whether there is a target
 abbrev pub has_target : Targets → Bool

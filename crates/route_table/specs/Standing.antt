@@ -1,5 +1,6 @@
 -- Words and pins that stand for rows, and one row more.
-use Rattle.std.specs.Prelude.{◌≡◌, ℕ, ◌+◌, ◌^◌, Bool, true, false, not, ◌&&◌, ◌||◌, nat_eq, nat_lt, List, [], ◌∷◌, slice_index, slice_set, Some, None}
+use Rattle.std.specs.Prelude.{◌≡◌, ℕ, ◌+◌, ◌^◌, Bool, true, false, not, ◌&&◌, ◌||◌, nat_eq, nat_lt, List, [], ◌∷◌, slice_index}
+use Rattle.std.specs.Prelude.{slice_set, Some, None}
 use Rattle.std.specs.Option.{option_or, is_some}
 use Rattle.std.specs.declared.option.Option.{Option}
 use Rattle.irq_base.specs.Refusals.{Reason}
@@ -17,7 +18,12 @@ named_in row = record { pic = pic_in row; ioapic = ioapic_in row; msi = msi_in r
 
 -- what was there, and what is named beside it
 abbrev pub joined : Targets → Targets → Targets
-joined there named = record { pic = option_or there.pic named.pic; ioapic = option_or there.ioapic named.ioapic; msi = option_or there.msi named.msi }
+joined there named =
+    record {
+      pic = option_or there.pic named.pic;
+      ioapic = option_or there.ioapic named.ioapic;
+      msi = option_or there.msi named.msi;
+    }
 
 -- where the word of a GSI sends it
 abbrev pub route_at : List ℕ → ℕ → Targets
@@ -50,7 +56,8 @@ reasons_by gsi named there taken =
     ∷ []
 
 abbrev pub reasons_at : List ℕ → List ℕ → List ℕ → Row → List Reason
-reasons_at words pics ioapics row = reasons_by (gsi_in row) (named_in row) (route_at words (gsi_in row)) (is_taken pics (pic_in row) || is_taken ioapics (ioapic_in row))
+reasons_at words pics ioapics row =
+    reasons_by (gsi_in row) (named_in row) (route_at words (gsi_in row)) (is_taken pics (pic_in row) || is_taken ioapics (ioapic_in row))
 
 -- the word of a row's GSI once the row is added
 abbrev pub word_with : List ℕ → Row → ℕ

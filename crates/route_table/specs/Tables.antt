@@ -11,11 +11,14 @@ use Rattle.route_table.specs.Rows.{Table, table_below, targets_of, refusal_of}
 use Rattle.route_table.specs.Standing.{route_at, Stands}
 
 abbrev pub message_code : Coded MsiWord
-message_code = code_by (ℕ × ℕ) (coded× coded_ℕ coded_ℕ) (λ m. (m.address, m.payload)) (λ p. record { address = p.0; payload = p.1 }) (λ _. refl)
+message_code =
+    code_by (ℕ × ℕ) (coded× coded_ℕ coded_ℕ) (λ m. (m.address, m.payload)) (λ p. record { address = p.0; payload = p.1 }) (λ _.
+    refl)
 
 abbrev pub targets_code : Coded Targets
 targets_code =
-    code_by (Option ℕ × (Option ℕ × Option MsiWord)) (coded× (coded_option coded_ℕ) (coded× (coded_option coded_ℕ) (coded_option message_code)))
+    code_by (Option ℕ
+    × (Option ℕ × Option MsiWord)) (coded× (coded_option coded_ℕ) (coded× (coded_option coded_ℕ) (coded_option message_code)))
     (λ t. (t.pic, (t.ioapic, t.msi))) (λ p. record { pic = p.0; ioapic = p.1.0; msi = p.1.1 }) (λ _. refl)
 
 abbrev pub table_code : Coded Table

@@ -60,11 +60,21 @@ pin_named there number = if nat_eq there 1 then Some number else None
 
 -- the pins that the fields of a word name
 abbrev pub pins_in : ℕ → Targets
-pins_in word = record { pic = pin_named (bits_of word 2 2) (bits_of word 6 3); ioapic = pin_named (bits_of word 7 7) (bits_of word 12 8); msi = None }
+pins_in word =
+    record {
+      pic = pin_named (bits_of word 2 2) (bits_of word 6 3);
+      ioapic = pin_named (bits_of word 7 7) (bits_of word 12 8);
+      msi = None;
+    }
 
 -- the message that the fields of a word name; the other bits of its address are those of messages
 abbrev pub message_in : ℕ → Targets
-message_in word = record { pic = None; ioapic = None; msi = Some (record { address = 0xfee00000 + bits_of word 21 2; payload = bits_of word 53 22 }) }
+message_in word =
+    record {
+      pic = None;
+      ioapic = None;
+      msi = Some (record { address = 0xfee00000 + bits_of word 21 2; payload = bits_of word 53 22 });
+    }
 
 -- one of both, by the kind
 abbrev pub of_kind : ℕ → Targets → Targets → Targets

@@ -11,5 +11,6 @@ ghost use Rattle.route_table.specs.Tables.{HasRow};
 /// GSIs have one pin, so the GSI of a pin is the one that has it.
 pub fn table_has_its_rows()
     ensures rows { (rows : List RouteRow) → refusal_of rows ≡ None → (row : RouteRow) → Contains rows row ↔ HasRow (table_of rows) row }
-    ensures pins { (rows : List RouteRow) → refusal_of rows ≡ None → (pin : ChipPin) (gsi : ℕ) → (gsi_of (table_of rows) pin ≡ Some gsi) ↔ IsTrue (has_pin pin (targets_of (table_of rows) gsi)) }
+    ensures pins { (rows : List RouteRow) → refusal_of rows ≡ None → (pin : ChipPin) (gsi : ℕ)
+        → (gsi_of (table_of rows) pin ≡ Some gsi) ↔ IsTrue (has_pin pin (targets_of (table_of rows) gsi)) }
 {}

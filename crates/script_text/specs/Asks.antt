@@ -1,5 +1,6 @@
 -- What an actor of a script asks, by the replies that it gets.
-use Rattle.std.specs.Prelude.{◌≡◌, ℕ, zero, suc, ◌-◌, Bool, false, not, nat_eq, List, [], ◌∷◌, map, filter, fold, drop, slice_index_or, Some, None}
+use Rattle.std.specs.Prelude.{◌≡◌, ℕ, zero, suc, ◌-◌, Bool, false, not, nat_eq, List, [], ◌∷◌, map, filter, fold, drop}
+use Rattle.std.specs.Prelude.{slice_index_or, Some, None}
 use Rattle.std.specs.declared.option.Option.{Option}
 use Rattle.irq_base.specs.declared.call.Call.{Call}
 use Rattle.irq_base.specs.declared.call.Call.TheVariants.{PortOut, Ack, Eoi}

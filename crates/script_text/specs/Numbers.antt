@@ -1,5 +1,6 @@
 -- How numbers are read and spelled.
-use Rattle.std.specs.Prelude.{ℕ, zero, suc, ◌+◌, ◌-◌, ◌*◌, ◌/◌, ◌%◌, ◌^◌, max, min, ◌&&◌, ◌||◌, nat_eq, nat_lt, nat_le, List, [], ◌∷◌, length, slice_index, Some, None, Ok, Err, if◌then◌else◌, option_and_then}
+use Rattle.std.specs.Prelude.{ℕ, zero, suc, ◌+◌, ◌-◌, ◌*◌, ◌/◌, ◌%◌, ◌^◌, max, min, ◌&&◌, ◌||◌, nat_eq, nat_lt, nat_le, List, []}
+use Rattle.std.specs.Prelude.{◌∷◌, length, slice_index, Some, None, Ok, Err, if◌then◌else◌, option_and_then}
 use Rattle.std.specs.declared.option.Option.{Option}
 use Rattle.std.specs.declared.result.Result.{Result}
 use Rattle.irq_base.specs.declared.fault.LineCause.{LineCause}

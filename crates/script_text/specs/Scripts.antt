@@ -1,5 +1,6 @@
 -- The grammar of scripts: header lines, actor lines, and the first bad line with its cause.
-use Rattle.std.specs.Prelude.{ℕ, ◌+◌, Bool, true, false, not, ◌&&◌, ◌||◌, nat_eq, nat_lt, nat_le, List, [], ◌∷◌, ◌++◌, take, drop, length, slice_index, codes, Ok, Err, if◌then◌else◌}
+use Rattle.std.specs.Prelude.{ℕ, ◌+◌, Bool, true, false, not, ◌&&◌, ◌||◌, nat_eq, nat_lt, nat_le, List, [], ◌∷◌, ◌++◌, take, drop}
+use Rattle.std.specs.Prelude.{length, slice_index, codes, Ok, Err, if◌then◌else◌}
 use Rattle.std.specs.List.{list_all, list_any}
 use Rattle.std.specs.declared.result.Result.{Result}
 use Rattle.irq_base.specs.Callers.{is_allowed}

@@ -136,7 +136,8 @@ fn calls(draft: &mut Draft, tail: &[u8]) -> Result<Place, LineFault>
 
 // `N` of `publications`
 fn publications(draft: &mut Draft, tail: &[u8]) -> Result<Place, LineFault>
-    ensures lead { Leads result draft.new (one_field (with_publications (script_in draft.old)) (decimal_in 0 1048576) (more_words tail.now)) }
+    ensures lead { Leads result draft.new
+        (one_field (with_publications (script_in draft.old)) (decimal_in 0 1048576) (more_words tail.now)) }
     ensures index { IsIndexedDraft draft.old → IsIndexedDraft draft.new }
 {
     let Some(word) = one_word(tail) else {

@@ -62,7 +62,9 @@ source_given_back (Line n) = let three : n + 3 ≡ suc (suc (suc n)) = omega ari
 
 -- a hold is stored as its pin and the number of its source
 abbrev pub hold_code : Coded Hold
-hold_code = code_by (ℕ × ℕ) (coded× coded_ℕ coded_ℕ) (λ h. (h.pin, number_of h.source)) (λ p. hold p.0 (source_of p.1)) (λ h i. hold h.pin (source_given_back h.source i))
+hold_code =
+    code_by (ℕ × ℕ) (coded× coded_ℕ coded_ℕ) (λ h. (h.pin, number_of h.source)) (λ p. hold p.0 (source_of p.1)) (λ h i.
+    hold h.pin (source_given_back h.source i))
 
 abbrev pub holds_code : Coded Holds
 holds_code = set.code hold_code

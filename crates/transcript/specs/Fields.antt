@@ -11,9 +11,12 @@ use Rattle.irq_base.specs.declared.event.Pin.TheVariants.{Pic, Ioapic}
 use Rattle.irq_base.specs.declared.fault.LineCause.{LineCause}
 use Rattle.irq_base.specs.declared.fault.LineCause.TheVariants.{Word, Count, Number}
 use Rattle.irq_base.specs.declared.refusal.Refusal.{Refusal}
-use Rattle.irq_base.specs.declared.refusal.Refusal.TheVariants.{NoGsi, NoCounter, BadRow, ChipTwice, Mixed, PinTwice, Busy, RoleClash, Full, Exists, NotThere, BadRange, ChipAddress, Over, BadCount, NoLine, BadMsi}
+use Rattle.irq_base.specs.declared.refusal.Refusal.TheVariants.{NoGsi, NoCounter, BadRow, ChipTwice, Mixed, PinTwice, Busy}
+use Rattle.irq_base.specs.declared.refusal.Refusal.TheVariants.{RoleClash, Full, Exists, NotThere, BadRange, ChipAddress, Over}
+use Rattle.irq_base.specs.declared.refusal.Refusal.TheVariants.{BadCount, NoLine, BadMsi}
 use Rattle.irq_base.specs.declared.reply.Reply.{Reply}
-use Rattle.irq_base.specs.declared.reply.Reply.TheVariants.{Signal, Done, Count as Counted, Empty, Removed, Value, Exit, Vector, Extint, Nmi, Ended, Nothing, Held, Refused}
+use Rattle.irq_base.specs.declared.reply.Reply.TheVariants.{Signal, Done, Count as Counted, Empty, Removed, Value, Exit, Vector}
+use Rattle.irq_base.specs.declared.reply.Reply.TheVariants.{Extint, Nmi, Ended, Nothing, Held, Refused}
 use Rattle.irq_base.specs.declared.status.Cause.{Cause}
 use Rattle.irq_base.specs.declared.status.Cause.TheVariants.{Masked, Unrouted, NoProcessor, BadVector, Mode}
 use Rattle.irq_base.specs.declared.status.Status.{Status}

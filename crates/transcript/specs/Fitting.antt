@@ -7,7 +7,8 @@ use Rattle.irq_base.specs.declared.event.Pin.{Pin}
 use Rattle.irq_base.specs.declared.event.Pin.TheVariants.{Pic, Ioapic}
 use Rattle.irq_base.specs.declared.lists.Entry.{Entry}
 use Rattle.irq_base.specs.declared.reply.Reply.{Reply}
-use Rattle.irq_base.specs.declared.reply.Reply.TheVariants.{Signal, Done, Count, Empty, Removed, Value, Exit, Vector, Extint, Nmi, Ended, Nothing, Held, Refused}
+use Rattle.irq_base.specs.declared.reply.Reply.TheVariants.{Signal, Done, Count, Empty, Removed, Value, Exit, Vector, Extint, Nmi}
+use Rattle.irq_base.specs.declared.reply.Reply.TheVariants.{Ended, Nothing, Held, Refused}
 use Rattle.irq_base.specs.declared.status.Status.{Status}
 use Rattle.irq_base.specs.declared.status.Status.TheVariants.{Delivered, Coalesced, Ignored, Lowered}
 use Rattle.script_text.specs.Fitting.{FitsCall, FitsCaller, FitsIfThere}

@@ -5,7 +5,8 @@ use Rattle.irq_base.specs.Text.{caller_text, status_text, refusal_text, event_te
 use Rattle.irq_base.specs.declared.call.Call.{Call}
 use Rattle.irq_base.specs.declared.call.Call.TheVariants.{Attach, Detach, PortOut, PortIn, Store, Load}
 use Rattle.irq_base.specs.declared.reply.Reply.{Reply}
-use Rattle.irq_base.specs.declared.reply.Reply.TheVariants.{Signal, Done, Count, Empty, Removed, Value, Exit, Vector, Extint, Nmi, Ended, Nothing, Held, Refused}
+use Rattle.irq_base.specs.declared.reply.Reply.TheVariants.{Signal, Done, Count, Empty, Removed, Value, Exit, Vector, Extint, Nmi}
+use Rattle.irq_base.specs.declared.reply.Reply.TheVariants.{Ended, Nothing, Held, Refused}
 use Rattle.irq_base.specs.declared.event.Event.{Event}
 use Rattle.irq_base.specs.declared.lists.Entry.{Entry}
 use Rattle.script_text.specs.Numbers.{hex_text}

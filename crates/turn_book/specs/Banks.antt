@@ -1,5 +1,7 @@
--- The published words. They stand in two banks behind the front and the turns: the bank of a generation is that of its parity, and the other is the spare one
-use Rattle.std.specs.Prelude.{◌≡◌, ℕ, ◌+◌, ◌≤◌, ◌%◌, List, [], ◌∷◌, ◌++◌, length, Bool, true, false, not, Option, Some, None, slice_get, slice_index, nat_eq, is_some, All, IfSome, count_by}
+-- The published words. They stand in two banks behind the front and the turns: the bank of a generation is that of its parity, and
+-- the other is the spare one
+use Rattle.std.specs.Prelude.{◌≡◌, ℕ, ◌+◌, ◌≤◌, ◌%◌, List, [], ◌∷◌, ◌++◌, length, Bool, true, false, not, Option, Some, None}
+use Rattle.std.specs.Prelude.{slice_get, slice_index, nat_eq, is_some, All, IfSome, count_by}
 use Rattle.turn_book.specs.declared.view.Note.{Note}
 use Rattle.turn_book.specs.declared.view.Draft.{Draft}
 use Rattle.turn_book.specs.declared.view.View.{View}
@@ -24,12 +26,14 @@ AreDrafted words drafts = (i x : ℕ) → slice_get words i ≡ Some x → draft
 
 -- a note is of no generation above this one, and where it is of this one it has the published value
 abbrev pub IsRight : List ℕ → ℕ → Note → Type 0
-IsRight published generation note = (note.generation ≤ generation) × (note.generation ≡ generation → slice_get published note.index ≡ Some note.value)
+IsRight published generation note =
+    (note.generation ≤ generation) × (note.generation ≡ generation → slice_get published note.index ≡ Some note.value)
 
 -- a history and a longer one with equally many publications leave the same published words
 abbrev pub GenerationsHaveWords : {S E : Type 0} → (S → E → S → Type 0) → (S → List ℕ) → (E → Bool) → Type 0
 GenerationsHaveWords {S} {E} steps published is_publication =
-    (o s u : S) (h k : List E) → Runs steps o h s → Runs steps o (h ++ k) u → count_by is_publication (h ++ k) ≡ count_by is_publication h → published u ≡ published s
+    (o s u : S) (h k : List E) → Runs steps o h s → Runs steps o (h ++ k) u → count_by is_publication (h ++ k)
+    ≡ count_by is_publication h → published u ≡ published s
 
 module _ {S E P : Type 0} where
   -- the view holds the registry, which is part 0
@@ -53,4 +57,5 @@ module _ {S E P : Type 0} where
     pub notes : All (IsRight published generation) v.notes
     -- Only the registry's holder has drafts or knows a generation, which is the front's, and each draft stands in the other bank
     pub knows : (g : ℕ) → v.knows ≡ Some g → (g ≡ generation) × HasRegistry v
-    pub drafts : (i x : ℕ) → draft_at i v.drafts ≡ Some x → HasRegistry v × (slice_index words (place n (length published) (not (is_odd generation)) i) ≡ x)
+    pub drafts : (i x : ℕ) → draft_at i v.drafts ≡ Some x → HasRegistry v
+        × (slice_index words (place n (length published) (not (is_odd generation)) i) ≡ x)

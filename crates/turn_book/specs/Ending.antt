@@ -12,7 +12,8 @@ module _ {S E P : Type 0} where
   abbrev pub AllEnded : View S E P → Type 0
   AllEnded v = (c : ℕ) → is_in c v.made ≡ true → is_some (ended_at c v.ended) ≡ true
 
-  -- One legal history, from the opening state that the desk began with, leaves these parts and has this front. It begins with what the desk has seen, has of each joined caller just the entries of its own list, and of no other caller any
+  -- One legal history, from the opening state that the desk began with, leaves these parts and has this front. It begins with what
+  -- the desk has seen, has of each joined caller just the entries of its own list, and of no other caller any
   pub record EndsRight (m : Workings S E P) (opening : S) (v : View S E P) (left : List P) (front : Front) : Type 0 where
     pub history : List E
     pub now : S

@@ -1,5 +1,6 @@
 -- What a seat holds: the parts by the history, and the slots in hand
-use Rattle.std.specs.Prelude.{◌≡◌, ℕ, zero, suc, List, [], ◌∷◌, ◌++◌, length, Bool, true, false, Option, Some, None, slice_get, is_some, nat_eq, nat_lt, unwrap_or}
+use Rattle.std.specs.Prelude.{◌≡◌, ℕ, zero, suc, List, [], ◌∷◌, ◌++◌, length, Bool, true, false, Option, Some, None, slice_get}
+use Rattle.std.specs.Prelude.{is_some, nat_eq, nat_lt, unwrap_or}
 use Rattle.turn_book.specs.declared.view.Held.{Held}
 
 -- the value with which a part is held, or none

@@ -1,5 +1,6 @@
 -- The rule of a book: one legal history, and what each seat knows of it
-use Rattle.std.specs.Prelude.{◌≡◌, ℕ, ◌+◌, ◌<◌, ◌≤◌, List, [], Bool, ◌⊎◌, length, true, false, Some, None, slice_get, slice_index, is_some, All, count_by}
+use Rattle.std.specs.Prelude.{◌≡◌, ℕ, ◌+◌, ◌<◌, ◌≤◌, List, [], Bool, ◌⊎◌, length, true, false, Some, None, slice_get, slice_index}
+use Rattle.std.specs.Prelude.{is_some, All, count_by}
 use mathlib.Core.Option.{some}
 use lib.ListN.{get_elem?}
 use Rattle.atomic_table.specs.Table.{State}
@@ -16,7 +17,8 @@ use Rattle.turn_book.specs.Views.{ended_at}
 abbrev pub turn_of : List ℕ → ℕ → ℕ
 turn_of words p = slice_index words (p + 1)
 
--- what a machine is to the rule: its opening states, its steps, the parts and the published words of a state, and of an entry its caller and whether it is a publication
+-- what a machine is to the rule: its opening states, its steps, the parts and the published words of a state, and of an entry its
+-- caller and whether it is a publication
 pub record Workings (S E P : Type 0) : Type 1 where
   pub opens : S → Type 0
   pub steps : S → E → S → Type 0
@@ -25,10 +27,13 @@ pub record Workings (S E P : Type 0) : Type 1 where
   pub caller : E → ℕ
   pub is_publication : E → Bool
 
-abbrev pub workings : {S E P : Type 0} → (S → Type 0) → (S → E → S → Type 0) → (S → List P) → (S → List ℕ) → (E → ℕ) → (E → Bool) → Workings S E P
-workings opens steps parts published caller is_publication = record { opens = opens; steps = steps; parts = parts; published = published; caller = caller; is_publication = is_publication }
+abbrev pub workings : {S E P : Type 0} → (S → Type 0) → (S → E → S → Type 0) → (S → List P) → (S → List ℕ) → (E → ℕ) → (E → Bool)
+    → Workings S E P
+workings opens steps parts published caller is_publication =
+    record { opens = opens; steps = steps; parts = parts; published = published; caller = caller; is_publication = is_publication }
 
--- What stands behind the words: the history, the state that it leaves, the seat that holds each part whose turn is taken, the callers for whom seats were split, and those whose seats were joined, with their entries
+-- What stands behind the words: the history, the state that it leaves, the seat that holds each part whose turn is taken, the
+-- callers for whom seats were split, and those whose seats were joined, with their entries
 pub record Behind (S E : Type 0) : Type 0 where
   pub history : List E
   pub now : S
@@ -53,11 +58,13 @@ module _ {S E P : Type 0} where
     pub looked : (f : Front) → last_of v.looks ≡ Some f → f.length ≤ length v.seen
     pub reads : Reads m r words v
     -- what is held has a taken turn, is with no other seat, and is as the history has it
-    pub holds : (p : ℕ) (x : P) → held_at p v.held ≡ Some x → (turn_of words p ≡ 1) × (r.owner p ≡ id) × (slice_get (m.parts r.now) p ≡ Some x)
+    pub holds : (p : ℕ) (x : P) → held_at p v.held ≡ Some x → (turn_of words p ≡ 1) × (r.owner p ≡ id)
+        × (slice_get (m.parts r.now) p ≡ Some x)
     -- a seat without a caller holds nothing
     pub idle : v.caller ≡ None → v.held ≡ []
     -- the entries of its caller in the history are those that it has seen, and those of its list before the last join
-    pub own : (c : ℕ) → v.caller ≡ Some c → (entries_of m.caller c r.history ≡ entries_of m.caller c v.seen) × (entries_of m.caller c r.history ≡ entries_of m.caller c v.before)
+    pub own : (c : ℕ) → v.caller ≡ Some c → (entries_of m.caller c r.history ≡ entries_of m.caller c v.seen)
+        × (entries_of m.caller c r.history ≡ entries_of m.caller c v.before)
     -- its caller was made, and has not ended
     pub listed : (c : ℕ) → v.caller ≡ Some c → (is_in c r.made ≡ true) × (ended_at c r.ended ≡ None)
     -- the desk knows which callers were made and which ended
@@ -73,14 +80,17 @@ module _ {S E P : Type 0} where
 
   -- Who the seats are: one desk at most, one seat a caller at most, and each caller that was made has a seat or has ended
   pub record Seats (r : Behind S E) (views : List (View S E P)) : Type 0 where
-    pub one_desk : (i j : ℕ) (v w : View S E P) → get_elem? views i ≡ some v → get_elem? views j ≡ some w → v.spent ≡ false → w.spent ≡ false → v.is_desk ≡ true → w.is_desk ≡ true → i ≡ j
-    pub one_seat : (i j : ℕ) (v w : View S E P) (c : ℕ) → get_elem? views i ≡ some v → get_elem? views j ≡ some w → v.spent ≡ false → w.spent ≡ false → v.caller ≡ Some c → w.caller ≡ Some c → i ≡ j
+    pub one_desk : (i j : ℕ) (v w : View S E P) → get_elem? views i ≡ some v → get_elem? views j ≡ some w → v.spent ≡ false
+        → w.spent ≡ false → v.is_desk ≡ true → w.is_desk ≡ true → i ≡ j
+    pub one_seat : (i j : ℕ) (v w : View S E P) (c : ℕ) → get_elem? views i ≡ some v → get_elem? views j ≡ some w → v.spent ≡ false
+        → w.spent ≡ false → v.caller ≡ Some c → w.caller ≡ Some c → i ≡ j
     pub placed : (c : ℕ) → is_in c r.made ≡ true → HasSeat views c ⊎ (is_some (ended_at c r.ended) ≡ true)
 
   -- The rule, which holds between any two steps, in seven points. The book began in this state, with so many published words
   pub record IsKept (m : Workings S E P) (opening : S) (size : ℕ) (s : State P (View S E P)) : Type 0 where
     pub behind : Behind S E
-    -- 1. The history is legal from the opening state that all views share. The front's length is the number of its entries, the front's generation the number of its publications
+    -- 1. The history is legal from the opening state that all views share. The front's length is the number of its entries, the
+    -- front's generation the number of its publications
     pub begins : m.opens opening
     pub legal : Runs m.steps opening behind.history behind.now
     pub front : slice_index s.words 0 ≡ word_of (front_after m.is_publication behind.history)
@@ -93,14 +103,17 @@ module _ {S E P : Type 0} where
     -- 5. A note of the front's generation has the published value.
     -- 6. Only the seat that holds the registry has drafts or knows a generation, which is the front's; each draft stands in the other bank
     pub each_seat : (id : ℕ) (v : View S E P) → get_elem? s.views id ≡ some v → v.spent ≡ false → Knows m opening behind s.words id v
-    -- 3. A turn is 0 or 1. With 0 no view holds the part, and its slot has the part of the history; with 1 just the owner's view holds it, as the history has it
+    -- 3. A turn is 0 or 1. With 0 no view holds the part, and its slot has the part of the history; with 1 just the owner's view
+    -- holds it, as the history has it
     pub turns : (p : ℕ) → p < length (m.parts behind.now) → turn_of s.words p < 2
     pub at_home : (p : ℕ) (x : P) → turn_of s.words p ≡ 0 → slice_get (m.parts behind.now) p ≡ Some x → get_elem? s.homes p ≡ some (some x)
     pub out : (p : ℕ) → p < length (m.parts behind.now) → turn_of s.words p ≡ 1 → IsOut s.views (behind.owner p) p
     -- 4. The bank of the generation's parity has the published words of the history
     pub bank : (i x : ℕ) → slice_get (m.published behind.now) i ≡ Some x
-        → slice_index s.words (place (length (m.parts behind.now)) (length (m.published behind.now)) (is_odd (count_by m.is_publication behind.history)) i) ≡ x
-    -- 7. No two seats have one caller; a caller that was made has a seat or has ended, and has just the entries that its seat has seen or with which it ended; a caller that was not made has none; a seat without a caller holds nothing
+        → slice_index s.words (place (length (m.parts behind.now)) (length (m.published behind.now))
+        (is_odd (count_by m.is_publication behind.history)) i) ≡ x
+    -- 7. No two seats have one caller; a caller that was made has a seat or has ended, and has just the entries that its seat has
+    -- seen or with which it ended; a caller that was not made has none; a seat without a caller holds nothing
     pub seats : Seats behind s.views
     pub unmade : (c : ℕ) → is_in c behind.made ≡ false → entries_of m.caller c behind.history ≡ []
     pub at_end : All (λ x. (is_in x.caller behind.made ≡ true) × (entries_of m.caller x.caller behind.history ≡ x.entries)) behind.ended

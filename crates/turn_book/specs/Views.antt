@@ -1,5 +1,6 @@
 -- What the moves of a seat make of its view
-use Rattle.std.specs.Prelude.{◌≡◌, ℕ, ◌+◌, List, [], ◌∷◌, length, Bool, true, false, Option, Some, None, slice_get, nat_eq, nat_le, if◌then◌else◌, IfSome, All}
+use Rattle.std.specs.Prelude.{◌≡◌, ℕ, ◌+◌, List, [], ◌∷◌, length, Bool, true, false, Option, Some, None, slice_get, nat_eq, nat_le}
+use Rattle.std.specs.Prelude.{if◌then◌else◌, IfSome, All}
 use Rattle.atomic_table.specs.declared.shared.Seat.{Seat}
 use Rattle.turn_book.specs.declared.view.Front.{Front}
 use Rattle.turn_book.specs.declared.view.View.{View}
@@ -32,15 +33,75 @@ next_of (Some g) = Some (g + 1)
 module _ {S E P : Type 0} where
   -- the first seat, which is the desk's, at the beginning
   abbrev pub first_view : S → View S E P
-  first_view s = record { begin = Some s; now = Some s; spent = false; is_desk = true; caller = None; seen = []; before = []; heard = []; looks = []; misses = []; held = []; took = []; found = []; notes = []; drafts = []; knows = None; made = []; ended = [] }
+  first_view s =
+      record {
+        begin = Some s;
+        now = Some s;
+        spent = false;
+        is_desk = true;
+        caller = None;
+        seen = [];
+        before = [];
+        heard = [];
+        looks = [];
+        misses = [];
+        held = [];
+        took = [];
+        found = [];
+        notes = [];
+        drafts = [];
+        knows = None;
+        made = [];
+        ended = [];
+      }
 
   -- what is left of a seat that another took in
   abbrev pub spent_view : View S E P
-  spent_view = record { begin = None; now = None; spent = true; is_desk = false; caller = None; seen = []; before = []; heard = []; looks = []; misses = []; held = []; took = []; found = []; notes = []; drafts = []; knows = None; made = []; ended = [] }
+  spent_view =
+      record {
+        begin = None;
+        now = None;
+        spent = true;
+        is_desk = false;
+        caller = None;
+        seen = [];
+        before = [];
+        heard = [];
+        looks = [];
+        misses = [];
+        held = [];
+        took = [];
+        found = [];
+        notes = [];
+        drafts = [];
+        knows = None;
+        made = [];
+        ended = [];
+      }
 
   -- a new seat, for that caller or for none, which has seen the same and holds nothing
   abbrev pub split_view : Option ℕ → View S E P → View S E P
-  split_view c v = record { begin = v.begin; now = v.now; spent = v.spent; is_desk = false; caller = c; seen = v.seen; before = []; heard = []; looks = []; misses = []; held = []; took = []; found = []; notes = []; drafts = []; knows = None; made = []; ended = [] }
+  split_view c v =
+      record {
+        begin = v.begin;
+        now = v.now;
+        spent = v.spent;
+        is_desk = false;
+        caller = c;
+        seen = v.seen;
+        before = [];
+        heard = [];
+        looks = [];
+        misses = [];
+        held = [];
+        took = [];
+        found = [];
+        notes = [];
+        drafts = [];
+        knows = None;
+        made = [];
+        ended = [];
+      }
 
   -- the seat from which it was split: the caller was made
   abbrev pub made_view : Option ℕ → View S E P → View S E P
@@ -94,11 +155,15 @@ module _ {S E P : Type 0} where
 
   -- the same opening state, caller and desk, with the same callers made and ended
   abbrev pub SamePlace : View S E P → View S E P → Type 0
-  SamePlace v w = (w.begin ≡ v.begin) × (w.spent ≡ v.spent) × (w.caller ≡ v.caller) × (w.is_desk ≡ v.is_desk) × (w.made ≡ v.made) × (w.ended ≡ v.ended)
+  SamePlace v w =
+      (w.begin ≡ v.begin) × (w.spent ≡ v.spent) × (w.caller ≡ v.caller) × (w.is_desk ≡ v.is_desk) × (w.made ≡ v.made)
+      × (w.ended ≡ v.ended)
 
   -- the same list, with the same state, and the same fronts found
   abbrev pub SameList : View S E P → View S E P → Type 0
-  SameList v w = (w.seen ≡ v.seen) × (w.now ≡ v.now) × (w.before ≡ v.before) × (w.heard ≡ v.heard) × (w.looks ≡ v.looks) × (w.misses ≡ v.misses)
+  SameList v w =
+      (w.seen ≡ v.seen) × (w.now ≡ v.now) × (w.before ≡ v.before) × (w.heard ≡ v.heard) × (w.looks ≡ v.looks)
+      × (w.misses ≡ v.misses)
 
   -- the same parts held, won and found taken
   abbrev pub SameTurns : View S E P → View S E P → Type 0
@@ -110,7 +175,9 @@ module _ {S E P : Type 0} where
 
   -- the same knowledge of published words; after a publication nothing is drafted, and the generation known is one more
   abbrev pub AfterEntry : Bool → View S E P → View S E P → Type 0
-  AfterEntry publishes v w = (w.notes ≡ v.notes) × (w.drafts ≡ (if publishes then [] else v.drafts)) × (w.knows ≡ (if publishes then next_of v.knows else v.knows))
+  AfterEntry publishes v w =
+      (w.notes ≡ v.notes) × (w.drafts ≡ (if publishes then [] else v.drafts))
+      × (w.knows ≡ (if publishes then next_of v.knows else v.knows))
 
   -- the last front that the view's loads found is of this generation
   abbrev pub LookedUnder : ℕ → View S E P → Type 0

@@ -166,11 +166,16 @@ impl<M: Machine> TurnBook<M> {
         ensures legal { IsLegal M.opens M.steps (view_of pen.new.seat) }
         ensures own { AddsNoneOfOwn M.caller (view_of pen.old.seat) (view_of pen.new.seat) }
         ensures holds { HoldsRight M.parts (view_of pen.new.seat) }
-        ensures list { (view_of pen.new.seat).ended ≡ with_end M.caller (view_of other.seat).caller (view_of other.seat).seen (view_of pen.old.seat).ended }
+        ensures list { (view_of pen.new.seat).ended
+            ≡ with_end M.caller (view_of other.seat).caller (view_of other.seat).seen (view_of pen.old.seat).ended }
         ensures ended { HasJustEnded M.caller (view_of pen.new.seat) }
         ensures made { HasOnlyMade M.caller (view_of pen.new.seat) }
-        ensures place { ((view_of pen.new.seat).begin ≡ (view_of pen.old.seat).begin) × ((view_of pen.new.seat).caller ≡ (view_of pen.old.seat).caller) × ((view_of pen.new.seat).is_desk ≡ (view_of pen.old.seat).is_desk) × ((view_of pen.new.seat).made ≡ (view_of pen.old.seat).made) }
-        ensures fronts { ((view_of pen.new.seat).looks ≡ (view_of pen.old.seat).looks) × ((view_of pen.new.seat).misses ≡ (view_of pen.old.seat).misses) }
+        ensures place { ((view_of pen.new.seat).begin ≡ (view_of pen.old.seat).begin)
+            × ((view_of pen.new.seat).caller ≡ (view_of pen.old.seat).caller)
+            × ((view_of pen.new.seat).is_desk ≡ (view_of pen.old.seat).is_desk)
+            × ((view_of pen.new.seat).made ≡ (view_of pen.old.seat).made) }
+        ensures fronts { ((view_of pen.new.seat).looks ≡ (view_of pen.old.seat).looks)
+            × ((view_of pen.new.seat).misses ≡ (view_of pen.old.seat).misses) }
         ensures turns { SameTurns (view_of pen.old.seat) (view_of pen.new.seat) }
         ensures right { NotesAreRight M.published M.is_publication (view_of pen.new.seat) }
         ensures words { SameWords (view_of pen.old.seat) (view_of pen.new.seat) }
@@ -188,7 +193,8 @@ impl<M: Machine> TurnBook<M> {
         requires book { pen.seat.table_id ≡ self.table.shared.table_id }
         requires desk { (view_of pen.seat).is_desk ≡ true }
         requires all { AllEnded (view_of pen.seat) }
-        ensures ends { EndsRight (workings M.opens M.steps M.parts M.published M.caller M.is_publication) (M.opening self.table.shared.key.parts.value.items) (view_of pen.seat) result.0.items result.1 }
+        ensures ends { EndsRight (workings M.opens M.steps M.parts M.published M.caller M.is_publication)
+            (M.opening self.table.shared.key.parts.value.items) (view_of pen.seat) result.0.items result.1 }
     {
         let TurnBook {
             table,

@@ -19,7 +19,13 @@ pub fn part_of<'a, M: Machine>(
 ) -> &'a mut M::Part
     requires book { pen.old.seat.table_id ≡ book.now.table.shared.table_id }
     requires held { is_some (held_at part (view_of pen.old.seat).held) ≡ true }
-    ensures* writes_back { sem 𝓛 (Lends (pen_row M.row M.Part.row M.Entry.row M.State.row M.Machine) M.Part.row pen.entry result (λ w. record pen.old { seat = lent_with pen.old.seat part w; distinct = lent-distinct part w (slots_of pen.old.seat) pen.old.distinct; paired = lent-paired part w (view_of pen.old.seat).held (slots_of pen.old.seat) pen.old.distinct pen.old.paired })) }
+    ensures* writes_back { sem 𝓛 (Lends (pen_row M.row M.Part.row M.Entry.row M.State.row M.Machine) M.Part.row pen.entry result (λ w.
+        record pen.old {
+          seat = lent_with pen.old.seat part w;
+          distinct = lent-distinct part w (slots_of pen.old.seat) pen.old.distinct;
+          paired =
+              lent-paired part w (view_of pen.old.seat).held (slots_of pen.old.seat) pen.old.distinct pen.old.paired;
+        })) }
     ensures value { slot_at part (slots_of pen.old.seat) ≡ Some result.now }
 {
     part_brought(&mut pen.seat, book, part)
@@ -33,7 +39,13 @@ impl<M: Machine> TurnBook<M> {
     pub fn lend<'a>(&'a self, pen: &'a mut Pen<M>, part: u32) -> &'a mut M::Part
         requires book { pen.old.seat.table_id ≡ self.now.table.shared.table_id }
         requires held { is_some (held_at part (view_of pen.old.seat).held) ≡ true }
-        ensures* writes_back { sem 𝓛 (Lends (pen_row M.row M.Part.row M.Entry.row M.State.row M.Machine) M.Part.row pen.entry result (λ w. record pen.old { seat = lent_with pen.old.seat part w; distinct = lent-distinct part w (slots_of pen.old.seat) pen.old.distinct; paired = lent-paired part w (view_of pen.old.seat).held (slots_of pen.old.seat) pen.old.distinct pen.old.paired })) }
+        ensures* writes_back { sem 𝓛 (Lends (pen_row M.row M.Part.row M.Entry.row M.State.row M.Machine) M.Part.row pen.entry result (λ w.
+            record pen.old {
+              seat = lent_with pen.old.seat part w;
+              distinct = lent-distinct part w (slots_of pen.old.seat) pen.old.distinct;
+              paired =
+                  lent-paired part w (view_of pen.old.seat).held (slots_of pen.old.seat) pen.old.distinct pen.old.paired;
+            })) }
         ensures value { slot_at part (slots_of pen.old.seat) ≡ Some result.now }
     {
         part_of(pen, self, part)

@@ -46,13 +46,15 @@ pub trait Machine {
     ghost count_stays: { (s : Self.State) (e : Self.Entry) (t : Self.State) → steps s e t → length (parts t) ≡ length (parts s) };
 
     // frame law: a step changes no part outside its reach
-    ghost unreached_stays: { (s : Self.State) (e : Self.Entry) (t : Self.State) (p : ℕ) → steps s e t → reach s e p ≡ false → slice_get (parts t) p ≡ slice_get (parts s) p };
+    ghost unreached_stays: { (s : Self.State) (e : Self.Entry) (t : Self.State) (p : ℕ) → steps s e t → reach s e p ≡ false
+        → slice_get (parts t) p ≡ slice_get (parts s) p };
 
     // frame law: a step depends on its reach and the published words alone
     ghost depends_on_reach: { DependsOnReach opens steps parts published reach has_room };
 
     // a step that is no publication leaves the published words
-    ghost words_stay: { (s : Self.State) (e : Self.Entry) (t : Self.State) → steps s e t → is_publication e ≡ false → published t ≡ published s };
+    ghost words_stay: { (s : Self.State) (e : Self.Entry) (t : Self.State) → steps s e t → is_publication e ≡ false
+        → published t ≡ published s };
 
     // a step leaves the number of published words
     ghost width_stays: { (s : Self.State) (e : Self.Entry) (t : Self.State) → steps s e t → length (published t) ≡ length (published s) };

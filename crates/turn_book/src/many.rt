@@ -17,7 +17,8 @@ impl<M: Machine> TurnBook<M> {
         requires home { AreHome (view_of pen.old.seat).held (slots_of pen.old.seat) }
         ensures book { pen.new.seat.table_id ≡ pen.old.seat.table_id }
         ensures home { AreHome (view_of pen.new.seat).held (slots_of pen.new.seat) }
-        ensures held { (q : ℕ) → is_some (held_at q (view_of pen.new.seat).held) ≡ (is_some (held_at q (view_of pen.old.seat).held) && not (is_in q parts.now)) }
+        ensures held { (q : ℕ) → is_some (held_at q (view_of pen.new.seat).held)
+            ≡ (is_some (held_at q (view_of pen.old.seat).held) && not (is_in q parts.now)) }
         ensures bare { HoldsJust parts.now (view_of pen.old.seat).held → (view_of pen.new.seat).held ≡ [] }
         ensures view { view_of pen.new.seat ≡ given_all parts.now (view_of pen.old.seat) }
     {
@@ -39,14 +40,18 @@ impl<M: Machine> TurnBook<M> {
         requires home { AreHome (view_of pen.old.seat).held (slots_of pen.old.seat) }
         ensures book { pen.new.seat.table_id ≡ pen.old.seat.table_id }
         ensures home { AreHome (view_of pen.new.seat).held (slots_of pen.new.seat) }
-        ensures held { IfOk result (λ done. (q : ℕ) → is_some (held_at q (view_of pen.new.seat).held) ≡ (is_in q parts.now || is_some (held_at q (view_of pen.old.seat).held))) }
-        ensures took { IfOk result (λ done. ((view_of pen.new.seat).took ≡ (view_of pen.old.seat).took ++ parts.now) × ((view_of pen.new.seat).found ≡ (view_of pen.old.seat).found)) }
+        ensures held { IfOk result (λ done. (q : ℕ) → is_some (held_at q (view_of pen.new.seat).held)
+            ≡ (is_in q parts.now || is_some (held_at q (view_of pen.old.seat).held))) }
+        ensures took { IfOk result (λ done. ((view_of pen.new.seat).took ≡ (view_of pen.old.seat).took ++ parts.now)
+            × ((view_of pen.new.seat).found ≡ (view_of pen.old.seat).found)) }
         ensures words { IfOk result (λ done. SameWords (view_of pen.old.seat) (view_of pen.new.seat)) }
         ensures found { IfErr result (λ p. (view_of pen.new.seat).found ≡ (view_of pen.old.seat).found ++ p ∷ []) }
         ensures one { IfErr result (λ p. is_in p parts.now ≡ true) }
         ensures until { IfErr result (λ p. (view_of pen.new.seat).took ≡ (view_of pen.old.seat).took ++ up_to p parts.now) }
-        ensures same { IfErr result (λ p. (q : ℕ) → is_some (held_at q (view_of pen.new.seat).held) ≡ is_some (held_at q (view_of pen.old.seat).held)) }
-        ensures others { IfOk result (λ done. (q : ℕ) → is_in q parts.now ≡ false → held_at q (view_of pen.new.seat).held ≡ held_at q (view_of pen.old.seat).held) }
+        ensures same { IfErr result (λ p. (q : ℕ) → is_some (held_at q (view_of pen.new.seat).held)
+            ≡ is_some (held_at q (view_of pen.old.seat).held)) }
+        ensures others { IfOk result (λ done. (q : ℕ) → is_in q parts.now ≡ false → held_at q (view_of pen.new.seat).held
+            ≡ held_at q (view_of pen.old.seat).held) }
         ensures unknown { IfErr result (λ p. is_in 0 parts.now ≡ false → SameWords (view_of pen.old.seat) (view_of pen.new.seat)) }
         ensures back { IfErr result (λ p. (view_of pen.new.seat).held ≡ (view_of pen.old.seat).held) }
         ensures notes { (view_of pen.new.seat).notes ≡ (view_of pen.old.seat).notes }

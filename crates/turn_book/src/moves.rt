@@ -39,7 +39,8 @@ impl<M: Machine> TurnBook<M> {
         ensures notes { (view_of pen.new.seat).notes ≡ (view_of pen.old.seat).notes }
         ensures drafts { (view_of pen.new.seat).drafts ≡ (view_of pen.old.seat).drafts }
         ensures knows { HasRegistry (view_of pen.old.seat) → (view_of pen.new.seat).knows ≡ Some result.generation }
-        ensures unheld { is_some (held_at 0 (view_of pen.old.seat).held) ≡ false → (view_of pen.new.seat).knows ≡ (view_of pen.old.seat).knows }
+        ensures unheld { is_some (held_at 0 (view_of pen.old.seat).held) ≡ false → (view_of pen.new.seat).knows
+            ≡ (view_of pen.old.seat).knows }
         ensures slots { slots_of pen.new.seat ≡ slots_of pen.old.seat }
     {
         let word = self.table.shared.load::<Look<M>>(&mut pen.seat, 0);
@@ -59,13 +60,21 @@ impl<M: Machine> TurnBook<M> {
         requires caller { (view_of pen.old.seat).caller ≢ None }
         requires free { is_some (held_at part (view_of pen.old.seat).held) ≡ false }
         ensures book { pen.new.seat.table_id ≡ pen.old.seat.table_id }
-        ensures got { result ≡ Took.Got → IfSome (held_at part (view_of pen.new.seat).held) (λ x. ((view_of pen.new.seat).held ≡ record { part = part; value = x } ∷ (view_of pen.old.seat).held) × (slots_of pen.new.seat ≡ (part, x) ∷ slots_of pen.old.seat) × IsAsHistoryHas (workings M.opens M.steps M.parts M.published M.caller M.is_publication) (view_of pen.old.seat) part x) }
+        ensures got { result ≡ Took.Got → IfSome (held_at part (view_of pen.new.seat).held) (λ x.
+            ((view_of pen.new.seat).held ≡ record { part = part; value = x } ∷ (view_of pen.old.seat).held)
+            × (slots_of pen.new.seat ≡ (part, x) ∷ slots_of pen.old.seat)
+            × IsAsHistoryHas (workings M.opens M.steps M.parts M.published M.caller M.is_publication) (view_of pen.old.seat) part x) }
         ensures held { result ≡ Took.Got → is_some (held_at part (view_of pen.new.seat).held) ≡ true }
-        ensures just { result ≡ Took.Got → (q : ℕ) → is_some (held_at q (view_of pen.new.seat).held) ≡ (nat_eq part q || is_some (held_at q (view_of pen.old.seat).held)) }
-        ensures home { AreHome (view_of pen.old.seat).held (slots_of pen.old.seat) → AreHome (view_of pen.new.seat).held (slots_of pen.new.seat) }
-        ensures took { result ≡ Took.Got → ((view_of pen.new.seat).took ≡ (view_of pen.old.seat).took ++ part ∷ []) × ((view_of pen.new.seat).found ≡ (view_of pen.old.seat).found) }
-        ensures found { result ≡ Took.Found → ((view_of pen.new.seat).found ≡ (view_of pen.old.seat).found ++ part ∷ []) × ((view_of pen.new.seat).took ≡ (view_of pen.old.seat).took) }
-        ensures lost { result ≡ Took.Found → ((view_of pen.new.seat).held ≡ (view_of pen.old.seat).held) × (slots_of pen.new.seat ≡ slots_of pen.old.seat) }
+        ensures just { result ≡ Took.Got → (q : ℕ) → is_some (held_at q (view_of pen.new.seat).held)
+            ≡ (nat_eq part q || is_some (held_at q (view_of pen.old.seat).held)) }
+        ensures home { AreHome (view_of pen.old.seat).held (slots_of pen.old.seat)
+            → AreHome (view_of pen.new.seat).held (slots_of pen.new.seat) }
+        ensures took { result ≡ Took.Got → ((view_of pen.new.seat).took ≡ (view_of pen.old.seat).took ++ part ∷ [])
+            × ((view_of pen.new.seat).found ≡ (view_of pen.old.seat).found) }
+        ensures found { result ≡ Took.Found → ((view_of pen.new.seat).found ≡ (view_of pen.old.seat).found ++ part ∷ [])
+            × ((view_of pen.new.seat).took ≡ (view_of pen.old.seat).took) }
+        ensures lost { result ≡ Took.Found → ((view_of pen.new.seat).held ≡ (view_of pen.old.seat).held)
+            × (slots_of pen.new.seat ≡ slots_of pen.old.seat) }
         ensures list { SameList (view_of pen.old.seat) (view_of pen.new.seat) }
         ensures place { SamePlace (view_of pen.old.seat) (view_of pen.new.seat) }
         ensures words { SameWords (view_of pen.old.seat) (view_of pen.new.seat) }
@@ -88,8 +97,10 @@ impl<M: Machine> TurnBook<M> {
         requires home { slot_at part (slots_of pen.old.seat) ≡ held_at part (view_of pen.old.seat).held }
         ensures book { pen.new.seat.table_id ≡ pen.old.seat.table_id }
         ensures view { view_of pen.new.seat ≡ given_view part (view_of pen.old.seat) }
-        ensures just { (q : ℕ) → is_some (held_at q (view_of pen.new.seat).held) ≡ (is_some (held_at q (view_of pen.old.seat).held) && not (nat_eq part q)) }
-        ensures home { AreHome (view_of pen.old.seat).held (slots_of pen.old.seat) → AreHome (view_of pen.new.seat).held (slots_of pen.new.seat) }
+        ensures just { (q : ℕ) → is_some (held_at q (view_of pen.new.seat).held)
+            ≡ (is_some (held_at q (view_of pen.old.seat).held) && not (nat_eq part q)) }
+        ensures home { AreHome (view_of pen.old.seat).held (slots_of pen.old.seat)
+            → AreHome (view_of pen.new.seat).held (slots_of pen.new.seat) }
         ensures gone { slot_at part (slots_of pen.new.seat) ≡ None }
         ensures slots { (q : ℕ) → nat_eq part q ≡ false → slot_at q (slots_of pen.new.seat) ≡ slot_at q (slots_of pen.old.seat) }
     {
@@ -125,12 +136,18 @@ impl<M: Machine> TurnBook<M> {
         ensures at { IfOk result (λ at. (at ≡ had.length) × (at ≡ length (view_of pen.old.seat).seen)) }
         ensures counted { IfOk result (λ at. had.generation ≡ count_by M.is_publication (view_of pen.old.seat).seen) }
         ensures entered { IfOk result (λ at. IfSome N.entry (λ e. (view_of pen.new.seat).seen ≡ (view_of pen.old.seat).seen ++ e ∷ [])) }
-        ensures follows { IfOk result (λ at. IfSome N.entry (λ e. (s t : M.State) → (view_of pen.old.seat).now ≡ Some s → (view_of pen.new.seat).now ≡ Some t → M.steps s e t)) }
+        ensures follows { IfOk result (λ at. IfSome N.entry (λ e. (s t : M.State) → (view_of pen.old.seat).now ≡ Some s
+            → (view_of pen.new.seat).now ≡ Some t → M.steps s e t)) }
         ensures kept { IfOk result (λ at. (view_of pen.new.seat).misses ≡ (view_of pen.old.seat).misses) }
         ensures published { IfOk result (λ at. AfterEntry publish (view_of pen.old.seat) (view_of pen.new.seat)) }
-        ensures other { IfErr result (λ now. (now ≢ had) × (now.length ≡ length (view_of pen.new.seat).seen) × (now.generation ≡ count_by M.is_publication (view_of pen.new.seat).seen)) }
-        ensures missed { IfErr result (λ now. (view_of pen.new.seat).misses ≡ (view_of pen.old.seat).misses ++ record { had = had; found = now } ∷ []) }
-        ensures lost { IfErr result (λ now. ((view_of pen.new.seat).held ≡ (view_of pen.old.seat).held) × AddsNoneOfOwn M.caller (view_of pen.old.seat) (view_of pen.new.seat)) }
+        ensures other { IfErr result (λ now. (now ≢ had) × (now.length ≡ length (view_of pen.new.seat).seen)
+            × (now.generation ≡ count_by M.is_publication (view_of pen.new.seat).seen)) }
+        ensures missed { IfErr result (λ now. (view_of pen.new.seat).misses ≡ (view_of pen.old.seat).misses ++ record {
+          had = had;
+          found = now;
+        } ∷ []) }
+        ensures lost { IfErr result (λ now. ((view_of pen.new.seat).held ≡ (view_of pen.old.seat).held)
+            × AddsNoneOfOwn M.caller (view_of pen.old.seat) (view_of pen.new.seat)) }
         ensures words { IfErr result (λ now. SameWords (view_of pen.old.seat) (view_of pen.new.seat)) }
         ensures seen { IsPrefix (view_of pen.old.seat).seen (view_of pen.new.seat).seen }
         ensures legal { IsLegal M.opens M.steps (view_of pen.new.seat) }
@@ -139,7 +156,8 @@ impl<M: Machine> TurnBook<M> {
         ensures ended { HasJustEnded M.caller (view_of pen.new.seat) }
         ensures made { HasOnlyMade M.caller (view_of pen.new.seat) }
         ensures looks { (view_of pen.new.seat).looks ≡ (view_of pen.old.seat).looks }
-        ensures turns { ((view_of pen.new.seat).took ≡ (view_of pen.old.seat).took) × ((view_of pen.new.seat).found ≡ (view_of pen.old.seat).found) }
+        ensures turns { ((view_of pen.new.seat).took ≡ (view_of pen.old.seat).took)
+            × ((view_of pen.new.seat).found ≡ (view_of pen.old.seat).found) }
         ensures place { SamePlace (view_of pen.old.seat) (view_of pen.new.seat) }
         ensures right { NotesAreRight M.published M.is_publication (view_of pen.new.seat) }
         ensures slots { slots_of pen.new.seat ≡ slots_of pen.old.seat }

@@ -22,7 +22,9 @@ impl<M: Machine> TableRule<M::Part, View<M::State, M::Entry, M::Part>, Origin<M:
     ghost use Rattle.turn_book.specs.Rule.{IsKept, workings};
     ghost use Rattle.turn_book.specs.Views.{first_view};
 
-    ghost holds = { λ key. IsKept (workings M.opens M.steps M.parts M.published M.caller M.is_publication) (M.opening key.parts.value.items) (length key.words.value.items) };
+    ghost holds = { λ key.
+        IsKept (workings M.opens M.steps M.parts M.published M.caller M.is_publication) (M.opening key.parts.value.items)
+        (length key.words.value.items) };
 
     ghost first = { λ key. first_view (M.opening key.parts.value.items) };
 }

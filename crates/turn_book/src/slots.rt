@@ -14,7 +14,8 @@ use atomic_table::Seat;
 /// The slot comes to the front of those that the seat has in hand, where it is one of them.
 #[inline]
 pub(crate) fn bring<S, V>(seat: &mut Seat<S, V>, slot: usize)
-    ensures { (seat.new.table_id ≡ seat.old.table_id) × (seat.new.id ≡ seat.old.id) × (seat.new.me ≡ (seat.old.me.0, brought slot seat.old.me.1)) }
+    ensures { (seat.new.table_id ≡ seat.old.table_id) × (seat.new.id ≡ seat.old.id)
+        × (seat.new.me ≡ (seat.old.me.0, brought slot seat.old.me.1)) }
 {}
 
 /// The part in hand, lent by the seat.
@@ -26,7 +27,8 @@ pub(crate) fn part_brought<'a, M: Machine>(
 ) -> &'a mut M::Part
     requires book { hand.old.table_id ≡ book.now.table.shared.table_id }
     requires first { (x : M.Part) × (brought part hand.old.me.1 ≡ (part, x) ∷ rest (brought part hand.old.me.1)) }
-    ensures* writes_back { sem 𝓛 (Lends (the_row M.Part.row (view_row M.State.row M.Entry.row M.Part.row)) M.Part.row hand.entry result (lent_with hand.old part)) }
+    ensures* writes_back { sem 𝓛 (Lends (the_row M.Part.row (view_row M.State.row M.Entry.row M.Part.row))
+        M.Part.row hand.entry result (lent_with hand.old part)) }
     ensures value { brought part hand.old.me.1 ≡ (part, result.now) ∷ rest (brought part hand.old.me.1) }
 {
     bring(hand, part as usize);

@@ -39,7 +39,8 @@ impl<M: Machine> TurnBook<M> {
         requires index { index < self.now.width }
         requires named { N.named ≡ Some index }
         ensures book { pen.new.seat.table_id ≡ pen.old.seat.table_id }
-        ensures noted { IfSome (last_of (view_of pen.old.seat).looks) (λ had. view_of pen.new.seat ≡ noted_view index result had.generation (view_of pen.old.seat)) }
+        ensures noted { IfSome (last_of (view_of pen.old.seat).looks) (λ had. view_of pen.new.seat
+            ≡ noted_view index result had.generation (view_of pen.old.seat)) }
         ensures slots { slots_of pen.new.seat ≡ slots_of pen.old.seat }
     {
         let place = self.place(pen.looked % 2 == 1, index);
@@ -56,7 +57,8 @@ impl<M: Machine> TurnBook<M> {
         requires looked { is_some (last_of (view_of pen.old.seat).looks) ≡ true }
         requires index { index < self.now.width }
         ensures book { pen.new.seat.table_id ≡ pen.old.seat.table_id }
-        ensures noted { IfSome (last_of (view_of pen.old.seat).looks) (λ had. view_of pen.new.seat ≡ noted_view index result had.generation (view_of pen.old.seat)) }
+        ensures noted { IfSome (last_of (view_of pen.old.seat).looks) (λ had. view_of pen.new.seat
+            ≡ noted_view index result had.generation (view_of pen.old.seat)) }
         ensures slots { slots_of pen.new.seat ≡ slots_of pen.old.seat }
     {
         self.word_named::<Brand>(pen, index)

@@ -51,7 +51,8 @@ fn copy_one<M: Machine, C: Copies<M::Part>>(
     ensures home { AreHome (view_of pen.new.seat).held (slots_of pen.new.seat) }
     ensures view { view_of pen.new.seat ≡ view_of pen.old.seat }
     ensures copied { copies.new ≡ copied_at C.copied part (held_at part (view_of pen.old.seat).held) copies.old }
-    ensures room { (ps : List ℕ) → HasRoom C.has_room ps (view_of pen.old.seat).held copies.old → HasRoom C.has_room ps (view_of pen.new.seat).held copies.new }
+    ensures room { (ps : List ℕ) → HasRoom C.has_room ps (view_of pen.old.seat).held copies.old
+        → HasRoom C.has_room ps (view_of pen.new.seat).held copies.new }
 {
     let slot = part_of(pen, book, part);
     copies.copy_in(part, slot);
@@ -92,8 +93,10 @@ fn write_one<M: Machine, C: Copies<M::Part>>(
     requires fits { (x : M.Part) → slot_at part (slots_of pen.old.seat) ≡ Some x → C.fits part copies.now x }
     ensures book { pen.new.seat.table_id ≡ pen.old.seat.table_id }
     ensures view { view_of pen.new.seat ≡ view_of pen.old.seat }
-    ensures slots { (q : ℕ) → slot_at q (slots_of pen.new.seat) ≡ written_at C.written copies.now (nat_eq part q) q (slot_at q (slots_of pen.old.seat)) }
-    ensures fits { (ps : List ℕ) → is_in part ps ≡ false → AllFit C.fits ps copies.now (slots_of pen.old.seat) → AllFit C.fits ps copies.now (slots_of pen.new.seat) }
+    ensures slots { (q : ℕ) → slot_at q (slots_of pen.new.seat)
+        ≡ written_at C.written copies.now (nat_eq part q) q (slot_at q (slots_of pen.old.seat)) }
+    ensures fits { (ps : List ℕ) → is_in part ps ≡ false → AllFit C.fits ps copies.now (slots_of pen.old.seat)
+        → AllFit C.fits ps copies.now (slots_of pen.new.seat) }
 {
     let slot = part_of(pen, book, part);
     copies.write_back(part, slot);
@@ -112,7 +115,8 @@ pub fn write_each<M: Machine, C: Copies<M::Part>>(
     requires fits { AllFit C.fits parts.now copies.now (slots_of pen.old.seat) }
     ensures book { pen.new.seat.table_id ≡ pen.old.seat.table_id }
     ensures view { view_of pen.new.seat ≡ view_of pen.old.seat }
-    ensures slots { (q : ℕ) → slot_at q (slots_of pen.new.seat) ≡ written_at C.written copies.now (is_in q parts.now) q (slot_at q (slots_of pen.old.seat)) }
+    ensures slots { (q : ℕ) → slot_at q (slots_of pen.new.seat)
+        ≡ written_at C.written copies.now (is_in q parts.now) q (slot_at q (slots_of pen.old.seat)) }
 {
     if let Some((part, rest)) = parts.split_first() {
         write_one(book, pen, *part, copies);
