@@ -14,3 +14,4 @@ mod slots;
 
 pub use restoring::restored;
 pub use room::Room;
+pub use slots::{copy_slot, write_slot};

@@ -66,7 +66,7 @@ fn copy_counters(counters: &mut Option<Counters>, kept: &Counters)
 /// the slot's turn.
 ///
 /// The registry and the counters are copied over those that are there, so that no memory is taken.
-pub(crate) fn copy_slot(parts: &mut Parts, part: u32, slot: &Slot)
+pub fn copy_slot(parts: &mut Parts, part: u32, slot: &Slot)
     requires { RoomFor part slot.now parts.old }
     ensures { parts.new ≡ with_copy part slot.now parts.old }
 {
@@ -81,7 +81,7 @@ pub(crate) fn copy_slot(parts: &mut Parts, part: u32, slot: &Slot)
 }
 
 /// Writes the copy in hand of a slot's part into the slot; without one the slot stays. `part` is the number of the slot's turn.
-pub(crate) fn write_slot(parts: &Parts, part: u32, slot: &mut Slot)
+pub fn write_slot(parts: &Parts, part: u32, slot: &mut Slot)
     requires { FitsOver part parts.now slot.old }
     ensures { slot.new ≡ written_by part parts.now slot.old }
 {

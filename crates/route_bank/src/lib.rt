@@ -7,9 +7,11 @@
 //! come to the spare bank; the entry that is committed next as a publication makes them the published ones. `words_of` gives
 //! the words of a registry as a list, with which a book begins.
 //!
-//! The words' formats stand in `board_model` and `route_table`: `route_table::decode` tells what the word of a GSI says.
+//! The words' formats stand in `board_model` and `route_table`: `route_table::decode` tells what the word of a GSI says,
+//! `decode_pin` and `decode_trigger` what those of a pin and of a trigger say.
 #![tactic(auto)]
 
+mod decoding;
 mod drafting;
 mod laws;
 mod listing;
@@ -17,7 +19,8 @@ mod marks;
 mod publishing;
 mod reading;
 
+pub use decoding::{decode_pin, decode_trigger};
 pub use laws::words_stand_at_indices;
 pub use listing::words_of;
 pub use publishing::publish;
-pub use reading::{pin_word, targets_word, trigger_word};
+pub use reading::{index_of_pin, pin_word, targets_word, trigger_word};

@@ -10,7 +10,7 @@ use turn_book::{Machine, Pen, TurnBook};
 
 /// The index of a pin's word.
 #[inline]
-fn index_of_pin(pin: Pin) -> u32
+pub fn index_of_pin(pin: Pin) -> u32
     requires { IsPin pin }
     ensures value { result ≡ index_of_pin pin }
     ensures within { result < 4392 }

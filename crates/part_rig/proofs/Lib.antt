@@ -1,0 +1,9 @@
+pub mod Telling
+pub mod Pins
+pub mod Fitting
+pub mod Blanks
+pub mod Noting
+pub mod Keeping
+pub mod Clearing
+pub mod Rooms
+pub mod Lent

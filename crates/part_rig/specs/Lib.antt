@@ -1,0 +1,6 @@
+pub mod Readings
+pub mod Noted
+pub mod Knowing
+pub mod Rooms
+pub mod RoomStays
+pub mod Lending
