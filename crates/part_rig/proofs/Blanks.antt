@@ -2,7 +2,6 @@
 use Rattle.std.proofs.Common.{◌≡◌, ℕ, zero, suc, ◌+◌, ◌<◌, ◌≤◌, nat_eq, true, [], ◌∷◌, length, get_or, slice_set, cond, if◌then◌else◌, is_none, Some, None, refl, ap, ◌∙◌, arith}
 use Rattle.std.specs.declared.option.Option.{Option}
 use Rattle.std.specs.List.{count_by}
-use Rattle.std.proofs.lemmas.Bool.Decides.{nat_tests}
 use Rattle.std.proofs.lemmas.List.Sums.{sum_by-set, count_by-le-length}
 use Rattle.part_rig.specs.declared.reading.Reading.{Reading}
 use Rattle.part_rig.specs.Readings.{Places, read_at, word_under, blanks_under}

@@ -1,5 +1,5 @@
 -- Where parts are cleared at all their places, nothing is in hand.
-use Rattle.std.proofs.Common.{◌≡◌, ℕ, zero, suc, ◌+◌, ◌<◌, true, false, true≢false, nat_eq, List, [], ◌∷◌, length, replicate, slice_get, slice_set, is_some, Some, None, refl, sym, ap, ◌∙◌, subst, arith}
+use Rattle.std.proofs.Common.{◌≡◌, ℕ, zero, suc, ◌+◌, ◌<◌, true, false, true≢false, nat_eq, List, [], ◌∷◌, length, replicate, slice_set, is_some, Some, None, refl, sym, ap, ◌∙◌, subst, arith}
 use Rattle.std.specs.Prelude.{Bool, option_map}
 use Rattle.std.specs.declared.option.Option.{Option}
 use Rattle.std.proofs.lemmas.Bool.Decides.{nat_tests}
@@ -7,7 +7,7 @@ use Rattle.std.proofs.lemmas.List.{length-set}
 use Rattle.irq_base.specs.declared.shape.Part.{Part}
 use Rattle.irq_base.specs.declared.shape.Part.TheVariants.{Registry, Counters, Tick, Pic, Ioapic, Lapic}
 use Rattle.irq_base.specs.declared.shape.Shape.{Shape}
-use Rattle.board_model.specs.Hand.{part_in, flat}
+use Rattle.board_model.specs.Hand.{part_in}
 use Rattle.board_raise.specs.declared.parts.Parts.{Parts}
 use Rattle.board_raise.specs.InHand.{parts_of}
 use Rattle.board_raise.specs.OnRow.{Row, apic_in}

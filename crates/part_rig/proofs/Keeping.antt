@@ -1,5 +1,5 @@
 -- All that is kept of words stands in one list.
-use Rattle.std.proofs.Common.{◌≡◌, ℕ, Bool, true, false, if◌then◌else◌, List, [], ◌∷◌, Some, None, refl, sym, ap, ◌∙◌}
+use Rattle.std.proofs.Common.{◌≡◌, ℕ, Bool, true, false, if◌then◌else◌, List, [], ◌∷◌, Some, None, refl, sym}
 use Rattle.std.specs.declared.option.Option.{Option}
 use Rattle.part_rig.specs.declared.known.Known.{Known}
 use Rattle.part_rig.specs.declared.reading.Reading.{Reading}

@@ -1,20 +1,19 @@
 -- A word that counts as noted of a pin is 0 or one more than a GSI that there can be.
-use Rattle.std.proofs.Common.{◌≡◌, ℕ, zero, suc, ◌+◌, ◌<◌, ◌≤◌, true, false, true≢false, nat_eq, nat_lt, List, slice_get, Some, None, refl, sym, ap, ◌∙◌, subst, arith}
-use Rattle.std.specs.Prelude.{Bool, count_by, IsTrue}
+use Rattle.std.proofs.Common.{◌≡◌, ℕ, ◌<◌, true, false, true≢false, nat_lt, List, Some, None, refl, sym, ap, ◌∙◌, subst, arith}
+use Rattle.std.specs.Prelude.{count_by, IsTrue}
 use Rattle.std.specs.declared.option.Option.{Option}
-use Rattle.std.proofs.lemmas.Bool.Decides.{eqb_tells, nat_tests}
+use Rattle.std.proofs.lemmas.Bool.Decides.{nat_tests}
 use Rattle.irq_base.specs.declared.call.Row.{Row}
 use Rattle.irq_base.specs.declared.event.Pin.{Pin}
 use Rattle.irq_base.specs.declared.event.Pin.TheVariants.{Pic, Ioapic}
-use Rattle.irq_base.specs.declared.message.Targets.{Targets}
 use Rattle.route_table.specs.Rows.{Table, is_same, pic_in, ioapic_in, table_of, targets_of}
-use Rattle.route_table.specs.Pins.{IsPin, has_pin, gsi_of}
+use Rattle.route_table.specs.Pins.{has_pin, gsi_of}
 use Rattle.route_table.proofs.Given.{pin_of_gsi}
 use Rattle.route_table.proofs.Sound.{sound_of}
 use Rattle.route_table.proofs.TableLaws.{given_by_rows}
 use Rattle.route_bank.specs.Indices.{index_of_pin}
 use Rattle.route_bank.proofs.Places.{words_stand}
-use Rattle.board_model.specs.Published.{published, pin_word, IsSoundTable}
+use Rattle.board_model.specs.Published.{pin_word, IsSoundTable}
 use Rattle.board_step.specs.Publications.{words}
 use Rattle.board_step.specs.Step.{is_publication}
 use Rattle.turn_book.specs.Banks.{NotesAreRight}

@@ -1,15 +1,13 @@
 -- Room for the copies of a board stays room for them.
-use Rattle.std.proofs.Common.{◌≡◌, ℕ, zero, suc, ◌+◌, ◌-◌, ◌<◌, ◌≤◌, true, false, true≢false, nat_eq, List, [], ◌∷◌, length, slice_get, is_some, Some, None, refl, sym, ap, ◌∙◌, subst, arith}
+use Rattle.std.proofs.Common.{◌≡◌, ℕ, zero, suc, ◌-◌, true, false, true≢false, nat_eq, List, [], ◌∷◌, length, slice_get, is_some, Some, None, refl, sym, ap, ◌∙◌, subst, arith}
 use Rattle.std.specs.Prelude.{Bool, IfSome, option_map}
 use Rattle.std.specs.declared.option.Option.{Option}
 use Rattle.std.proofs.lemmas.List.{length-set}
 use Rattle.irq_base.specs.declared.shape.Part.TheVariants.{Registry, Counters}
 use Rattle.irq_base.specs.declared.shape.Shape.{Shape}
 use Rattle.board_model.specs.Board.{Board}
-use Rattle.board_raise.specs.declared.parts.Parts.{Parts}
 use Rattle.board_raise.specs.declared.parts.RegistryPart.{RegistryPart}
 use Rattle.board_raise.specs.InHand.{registry_of}
-use Rattle.board_raise.proofs.InHand.{is_some-map}
 use Rattle.board_calls.specs.Done.{SameInHand, FitsButTick}
 use Rattle.board_step.specs.Sound.{IsSound}
 use Rattle.turn_book.specs.declared.view.Held.{Held}

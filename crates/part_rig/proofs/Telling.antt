@@ -1,12 +1,11 @@
 -- A word that was read under the generation of a look is the list's.
-use Rattle.std.proofs.Common.{◌≡◌, ℕ, zero, suc, true, false, true≢false, ◌&&◌, ◌||◌, nat_eq, if◌then◌else◌, List, [], ◌∷◌, replicate, slice_get, slice_index, Some, None, refl, sym, ap, ◌∙◌, subst, inl, inr, arith}
+use Rattle.std.proofs.Common.{◌≡◌, ℕ, zero, suc, true, false, true≢false, ◌||◌, if◌then◌else◌, List, [], ◌∷◌, replicate, slice_get, slice_index, Some, None, refl, sym, ap, ◌∙◌, subst, inl, inr, arith}
 use Rattle.std.specs.Prelude.{Bool, IfSome, All, count_by}
 use Rattle.std.specs.List.{list_any}
 use Rattle.std.specs.declared.option.Option.{Option}
 use Rattle.std.proofs.lemmas.Bool.Decides.{eqb_tells, nat_tests}
 use Rattle.std.proofs.lemmas.List.Elements.{All-head, All-tail}
 use Rattle.std.proofs.lemmas.Option.{get_or_from_slice_get}
-use Rattle.board_model.specs.Board.{Board}
 use Rattle.board_step.specs.Publications.{words}
 use Rattle.board_step.specs.Step.{is_publication}
 use Rattle.turn_book.specs.declared.view.Note.{Note}

@@ -1,5 +1,5 @@
 -- The registry of a slot, lent to the rig and brought home (this board's own rule).
-use Rattle.std.specs.Prelude.{◌≡◌, true, is_some, Some, None}
+use Rattle.std.specs.Prelude.{◌≡◌, Some, None}
 use Rattle.std.specs.declared.option.Option.{Option}
 use Rattle.board_raise.specs.declared.parts.RegistryPart.{RegistryPart}
 use Rattle.part_slots.specs.declared.slot.Slot.{Slot}

@@ -1,4 +1,4 @@
-use Rattle.std.proofs.Common.{◌≡◌, refl, ap, ◌∙◌, slice_index}
+use Rattle.std.proofs.Common.{refl, ◌∙◌, slice_index}
 use Rattle.turn_book.specs.Views.{view_of}
 use Rattle.part_rig.specs.Noted.{published_in}
 use Rattle.part_rig.proofs.Telling.{settled_told}

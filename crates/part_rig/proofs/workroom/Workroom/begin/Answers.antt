@@ -1,4 +1,4 @@
-use Rattle.std.proofs.Common.{◌≡◌, sym, ap, ◌∙◌, subst}
+use Rattle.std.proofs.Common.{sym, ap, ◌∙◌, subst}
 use Rattle.part_rig.specs.declared.workroom.Workroom.{Workroom}
 use Rattle.part_rig.specs.Rooms.{IsRoomFor, IsBare}
 use Rattle.part_rig.proofs.Clearing.{all_bare, all_cleared, all_known, rooms_stay}
