@@ -33,6 +33,11 @@ pub record Ran (b : Board) (caller : Caller) (call : Call) (wishes : Wishes) (re
   pub answers : (run (plan_on b caller call) b wishes).log.answers ≡ reply ∷ []
   pub events : now ≡ with_told before (run (plan_on b caller call) b wishes).log.events
 
+-- an entry leads from one board to the next where nothing is wished: its reply, its events and the next board are those of its call
+-- under no wish
+abbrev pub UnwishedStep : Board → Entry → Board → Type 0
+UnwishedStep b e c = (step : Step b e c) × (step.wishes ≡ [])
+
 -- whether a limit that barred a call is one of the board's shape, and is reached; none need be
 abbrev pub is_reached : Board → Option Spent → Bool
 is_reached b None = true

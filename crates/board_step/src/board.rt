@@ -1,5 +1,5 @@
 //! A whole board on one thread.
-ghost use Rattle.std.specs.Prelude.{◌≡◌, ◌<◌, ◌≤◌, ◌↔◌, IfOk, IsErrOf, Err, true, false, length, None, Some, MatchResult, OnErr};
+ghost use Rattle.std.specs.Prelude.{◌≡◌, ◌<◌, ◌≤◌, ◌↔◌, [], IfOk, IsErrOf, Err, true, false, length, None, Some, MatchResult, OnErr};
 ghost use Rattle.irq_base.specs.Callers.{is_allowed};
 ghost use Rattle.irq_base.specs.declared.shape.Part.{Part as AnyPart};
 ghost use Rattle.board_model.specs.Board.{part_of};
@@ -10,7 +10,8 @@ ghost use Rattle.board_raise.specs.BoardRig.{words_in};
 ghost use Rattle.board_raise.specs.Fit.{InLimits, Fits};
 ghost use Rattle.board_raise.specs.InHand.{parts_of, chips_of};
 ghost use Rattle.board_step.specs.declared.open.OpenError.TheVariants as errors;
-ghost use Rattle.board_step.specs.Applied.{Applied, Ran};
+ghost use Rattle.board_step.specs.Applied.{Applied, Ran, UnwishedStep};
+ghost use Rattle.board_step.specs.Bodies.{entry_of};
 ghost use Rattle.board_step.specs.Due.{AnswersDue};
 ghost use Rattle.board_step.specs.History.{opening};
 ghost use Rattle.board_step.specs.Reach.{reach};
@@ -116,18 +117,24 @@ impl Board {
     ///
     /// `Ok` comes exactly where no limit of the board bars the call, with the reply and with the number of calls that were
     /// answered before; then the board before, the entry of the call and the board after are a step, and the events of the step
-    /// stand after those that stood in the list, but for what finds no room for 640. No part outside the call's reach changes.
+    /// stand after those that stood in the list, but for what finds no room for 640: where the list was empty, all of them are there.
+    /// No part outside the call's reach changes. Nothing is wished, so that the same call on the same board has one reply, one list of
+    /// events and one board after it.
     ///
     /// `Spent` names the limit that bars the call: that of calls, or, where the call would be a publication, that of
     /// publications. Then nothing changes, and no event is told. It takes no memory.
     pub fn apply(&mut self, caller: Caller, call: &Call, events: &mut Events) -> Result<Done, Spent>
         requires { is_allowed caller call.now self.old.shape ≡ true }
         ensures spent { MatchResult result (λ _. spent_of self.old call.now ≡ None) (λ spent. spent_of self.old call.now ≡ Some spent) }
+        ensures ran { IfOk result (λ done. Ran self.old caller call.now [] done.reply events.old.items events.new.items) }
         ensures applied { IfOk result (λ done. Applied self.old caller call.now done events.old.items events.new.items self.new) }
+        ensures whole { IfOk result (λ done. events.old.items ≡ []
+            → UnwishedStep self.old (entry_of caller call.now done.reply events.new.items) self.new) }
         ensures outside { (p : AnyPart) → reach self.old caller call.now p ≡ false → part_of self.new p ≡ part_of self.old p }
         ensures stays { OnErr result (self.new ≡ self.old) }
         ensures quiet { OnErr result (events.new ≡ events.old) }
     {
+        self.keeps_sound();
         self.step(&[], caller, call, events)
     }
 

@@ -1,4 +1,5 @@
 mod RowCopies
+pub mod Unwished
 mod Turns
 mod Loops
 mod Registrations
@@ -8,3 +9,4 @@ mod Ordered
 mod Lines
 mod Firsts
 mod Answering
+mod OneReplay

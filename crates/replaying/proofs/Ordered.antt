@@ -24,6 +24,7 @@ use Rattle.script_histories.proofs.Merged.{no_replies, merges_append, leads_appe
 use Rattle.replaying.specs.Replays.{Replays}
 use Rattle.replaying.proofs.Barred.{stays_barred, stays_reached}
 use Rattle.replaying.proofs.Merged.{after, in_turn, others_stay}
+use Rattle.replaying.proofs.Unwished.{leads_of}
 
 some_none : {A : Type 0} (x : A) → Some x ≡ None → ⊥
 some_none x e = cc
@@ -74,6 +75,9 @@ module _ (s : Script) where
     abbrev taken : Asked line.caller (line_asks line.task behind) behind b mine stop mid
     taken = each behind
 
+    led : Leads b mine mid
+    led = leads_of b mine mid taken.leads
+
     own : after s line.caller before ≡ line_asks line.task behind
     own = subst (λ o. Stands o (after s line.caller before) (unrolled (tasks_of line.caller (line ∷ lines))) b) free (stand line.caller) ∙ behind_own line lines
 
@@ -99,7 +103,7 @@ module _ (s : Script) where
     moved : (o : Option Spent) (now a : Asks) → Stands o now a b → Stands o now a mid
     moved None now a s = s
     moved (Some spent) now a (call, next, barred, is) =
-        (call, next, stays_barred b call mine mid taken.leads barred, stays_reached b (Some spent) mine mid taken.leads is)
+        (call, next, stays_barred b call mine mid led barred, stays_reached b (Some spent) mine mid led is)
 
     others_stand : (who : Caller) → same_caller line.caller who ≡ false → Stands (stop_of who (with_stop line.caller stop had)) (after s who (before ++ mine)) (unrolled (tasks_of who lines)) mid
     others_stand who apart =
@@ -142,7 +146,7 @@ module _ (s : Script) where
           let rest = rec mid (with_stop line.caller stop had) (before ++ mine) later (stand_after_line b before had line lines mine stop mid free stand taken) more in
           record {
             merges = subst (λ es. Merges s before es) (sym both) (merges_append s before mine later (merges_line b before had line lines mine stop mid free stand taken) rest.merges);
-            leads = subst (λ es. Leads b es c) (sym both) (leads_append b mid c mine later (taken (unrolled (tasks_of line.caller lines))).leads rest.leads);
+            leads = subst (λ es. Leads b es c) (sym both) (leads_append b mid c mine later (leads_of b mine mid (taken (unrolled (tasks_of line.caller lines))).leads) rest.leads);
             stand = subst (λ es. AllStand c es has []) (append_assoc before mine later ∙ ap (λ es. before ++ es) (sym both)) rest.stand;
           }
 

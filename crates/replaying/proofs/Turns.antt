@@ -12,9 +12,9 @@ use Rattle.irq_base.specs.declared.reply.Spent.{Spent}
 use Rattle.script_text.specs.Asks.{Asks, ask, once, answered}
 use Rattle.board_model.specs.Board.{Board}
 use Rattle.board_step.specs.Step.{spent_of}
-use Rattle.script_histories.proofs.Merged.{leads_append}
 use Rattle.replaying.specs.FileOrder.{AsksInTurn}
 use Rattle.replaying.specs.Played.{Answered, Played}
+use Rattle.replaying.proofs.Unwished.{unwished_append}
 
 asks-append : (who : Caller) (asks mid left : Asks) (es fs : List Entry) → AsksInTurn who asks es mid → AsksInTurn who mid fs left → AsksInTurn who asks (es ++ fs) left
 asks-append who asks mid left [] fs first second = subst (λ a. AsksInTurn who a fs left) (sym first) second
@@ -56,7 +56,7 @@ module _ (who : Caller) where
     asked = record {
       left = second.asked.left;
       asked = asks-append who asks mid second.asked.left first.mine second.mine (subst (λ a. AsksInTurn who asks first.mine a) first.asked.leaves first.asked.asked) second.asked.asked;
-      leads = leads_append b m c first.mine second.mine first.asked.leads second.asked.leads;
+      leads = unwished_append b m c first.mine second.mine first.asked.leads second.asked.leads;
       leaves = second.asked.leaves;
     };
   }

@@ -9,7 +9,8 @@ use Rattle.script_text.specs.declared.task.ActorLine.{ActorLine}
 use Rattle.script_text.specs.Asks.{Asks, same_caller, next_call, answered, line_asks}
 use Rattle.script_text.specs.Scripts.{Script}
 use Rattle.board_model.specs.Board.{Board}
-use Rattle.board_step.specs.History.{opening, Leads}
+use Rattle.board_step.specs.Applied.{UnwishedStep}
+use Rattle.board_step.specs.History.{opening}
 use Rattle.board_step.specs.Step.{spent_of}
 use Rattle.replaying.specs.declared.stops.Stop.{Stop}
 
@@ -29,11 +30,16 @@ abbrev pub Leaves : Board → Asks → Asks → Option Spent → Type 0
 Leaves b left rest None = left ≡ rest
 Leaves b left rest (Some spent) = (call : Call) × (next_call left ≡ Some call) × (spent_of b call ≡ Some spent)
 
+-- entries lead from one board to another, and nothing is wished of any of their calls
+abbrev pub LeadsUnwished : Board → List Entry → Board → Type 0
+LeadsUnwished b [] c = b ≡ c
+LeadsUnwished b (e ∷ es) c = (next : Board) × UnwishedStep b e next × LeadsUnwished next es c
+
 -- a caller asks up to `rest`, or up to its first call that a limit bars: these entries, which lead from b to c
 pub record Asked (who : Caller) (asks rest : Asks) (b : Board) (entries : List Entry) (stop : Option Spent) (c : Board) : Type 0 where
   pub left : Asks
   pub asked : AsksInTurn who asks entries left
-  pub leads : Leads b entries c
+  pub leads : LeadsUnwished b entries c
   pub leaves : Leaves c left rest stop
 
 -- a line, whatever its caller asks behind it: the caller asks the whole line, or up to the first call of the line that a limit bars

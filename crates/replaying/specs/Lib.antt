@@ -1,3 +1,4 @@
 pub mod FileOrder
 pub mod Replays
 pub mod Played
+pub mod Laws

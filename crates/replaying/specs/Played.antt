@@ -11,15 +11,16 @@ use Rattle.irq_base.specs.declared.reply.Spent.{Spent}
 use Rattle.script_text.specs.declared.task.ActorLine.{ActorLine}
 use Rattle.script_text.specs.Asks.{Asks}
 use Rattle.board_model.specs.Board.{Board}
+use Rattle.board_step.specs.Applied.{UnwishedStep}
 use Rattle.board_step.specs.Bodies.{entry_of}
-use Rattle.board_step.specs.Step.{spent_of, Step}
+use Rattle.board_step.specs.Step.{spent_of}
 use Rattle.replaying.specs.declared.stops.Stop.{Stop}
 use Rattle.replaying.specs.FileOrder.{Asked, LinesAsked}
 
 -- a call was answered, and its entry stands behind the others; or a limit bars it, and all is as before
 abbrev pub Answered : Caller → Call → Board → List Entry → Result Reply Spent → Board → List Entry → Type 0
 Answered who call b before (Ok reply) c after =
-    (told : List Event) × Step b (entry_of who call reply told) c × (after ≡ before ++ entry_of who call reply told ∷ [])
+    (told : List Event) × UnwishedStep b (entry_of who call reply told) c × (after ≡ before ++ entry_of who call reply told ∷ [])
 Answered who call b before (Err spent) c after = (c ≡ b) × (after ≡ before) × (spent_of b call ≡ Some spent)
 
 -- a caller asked, and its entries stand behind the others

@@ -2,8 +2,10 @@
 #![tactic(auto)]
 
 mod copies;
+mod laws;
 mod player;
 mod running;
 mod stops;
 
+pub use laws::replays_are_one;
 pub use running::{Run, replay};

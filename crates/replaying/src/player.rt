@@ -85,7 +85,6 @@ impl Player {
             Answered caller call.now self.old.board self.old.history answer self.new.board self.new.history) }
     {
         self.events.clear();
-        self.board.keeps_sound();
         match self.board.apply(caller, call, &mut self.events) {
             Err(spent) => Ok(Err(spent)),
             Ok(done) => {

@@ -20,6 +20,7 @@ use Rattle.board_step.specs.History.{Leads}
 use Rattle.board_step.proofs.Publishing.{histories_keep_the_frame}
 use Rattle.replaying.specs.declared.stops.Stop.{Stop}
 use Rattle.replaying.specs.FileOrder.{with_stop, AsksInTurn, LineAsked, LinesAsked, first_stop}
+use Rattle.replaying.proofs.Unwished.{leads_of}
 
 -- ---- tasks of one call
 
@@ -147,7 +148,7 @@ line_free line later b mine (Some spent) c are room takes =
     let all = All-cons IsOnce line.task (tasks_of line.caller later) (All-head AsksOnce line later are) tasks.0 in
     let t = turns line.caller (line.task ∷ tasks_of line.caller later) mine taken.left all
     (subst (λ asks. AsksInTurn line.caller asks mine taken.left) (sym (unrolled_line line.task (tasks_of line.caller later))) taken.asked) in
-    let after = room_after b c mine 0 (room_less b (suc (length later)) (length mine + 0) (omega (arith, t.few, tasks.1)) room) taken.leads in
+    let after = room_after b c mine 0 (room_less b (suc (length later)) (length mine + 0) (omega (arith, t.few, tasks.1)) room) (leads_of b mine c taken.leads) in
     absurd (none_some spent (sym (free c taken.leaves.0 after) ∙ taken.leaves.2))
   where
     none_some : (spent : Spent) → None ≡ Some spent → ⊥
@@ -161,7 +162,7 @@ line_free line later b mine None c are room takes =
     let d : depth taken.left ≡ length (tasks_of line.caller later) = ap depth taken.leaves ∙ depth_is (tasks_of line.caller later) tasks.0 in (
       refl,
       one_entry line (unrolled (tasks_of line.caller later)) b mine c (All-head AsksOnce line later are) (omega (arith, t.left_is, d))
-          (subst (λ left. AsksInTurn line.caller (line_asks line.task (unrolled (tasks_of line.caller later))) mine left) taken.leaves taken.asked) taken.leads,
+          (subst (λ left. AsksInTurn line.caller (line_asks line.task (unrolled (tasks_of line.caller later))) mine left) taken.leaves taken.asked) (leads_of b mine c taken.leads),
     )
 
 -- lines one after another: each makes one entry, which stands behind those before
@@ -177,7 +178,7 @@ lines_walk [] b es c has are room (nothing, same, kept) = (sym kept, (nothing, s
 lines_walk (line ∷ lines) b es c has are room (mine, later, stop, mid, is, taken, more) =
     let here = line_free line lines b mine stop mid are room taken in
     let one : length mine ≡ 1 = ap length here.1.alone in
-    let after = room_after b mid mine (length lines) (room_less b (suc (length lines)) (length mine + length lines) (omega (arith, one)) room) (taken (unrolled (tasks_of line.caller lines))).leads in
+    let after = room_after b mid mine (length lines) (room_less b (suc (length lines)) (length mine + length lines) (omega (arith, one)) room) (leads_of b mine mid (taken (unrolled (tasks_of line.caller lines))).leads) in
     let rest = lines_walk lines mid later c has (All-tail AsksOnce line lines are) after (subst (λ o. LinesAsked lines mid (with_stop line.caller o []) later c has) here.0 more) in
     (rest.0, (mine, later, mid, is, here.1, rest.1))
 

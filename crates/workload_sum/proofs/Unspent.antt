@@ -1,5 +1,5 @@
 -- A generated script meets no limit: each of its replays makes one entry a line.
-use Rattle.std.proofs.Common.{◌≡◌, ℕ, ◌≤◌, List, ◌∷◌, ◌++◌, length, None, refl, ap, ◌∙◌, subst, All, arith}
+use Rattle.std.proofs.Common.{◌≡◌, ℕ, ◌≤◌, List, ◌∷◌, ◌++◌, length, None, refl, sym, ap, ◌∙◌, subst, All, arith}
 use Rattle.std.specs.declared.option.Option.{Option}
 use Rattle.std.proofs.lemmas.List.{length-append}
 use Rattle.std.proofs.lemmas.List.Elements.{All-cons}
@@ -10,12 +10,13 @@ use Rattle.script_text.specs.declared.task.ActorLine.{ActorLine}
 use Rattle.board_model.specs.Board.{Board}
 use Rattle.board_step.specs.History.{opening}
 use Rattle.replaying.specs.FileOrder.{first_stop}
+use Rattle.replaying.specs.Laws.{ReplaysAreOne}
 use Rattle.replaying.specs.Replays.{Replays}
 use Rattle.workload_gen.specs.Workload.{asks, each_below, enable, reroute, trigger, set_up, drawn_line, shape_of, workload}
 use Rattle.workload_gen.specs.Laws.{IsInRange}
 use Rattle.workload_gen.proofs.Below.{all-append, each-holds, length-each}
 use Rattle.workload_sum.specs.Counts.{summary_text}
-use Rattle.workload_sum.specs.Summary.{IsSummary}
+use Rattle.workload_sum.specs.Summary.{IsSummary, SummariesAreOne}
 use Rattle.workload_sum.proofs.Once.{AsksOnce, HasRoom, Walked, lines_walk, nobody_stops}
 
 abbrev workload_lines : ℕ → ℕ → ℕ → List ActorLine
@@ -54,9 +55,14 @@ walks start n c history spent is replay =
     (order.first ∙ ap (first_stop (workload_lines start n c)) w.0 ∙ nobody_stops (workload_lines start n c), (order.last, w.1))
 
 pub summary : (start n c : ℕ) (history : List Entry) (spent : Option Spent) (text : List ℕ) → IsInRange n c → Replays (workload start n c) history spent
-    → text ≡ summary_text history → IsSummary start n c text
-summary start n c history spent text is replay counts = record {
+    → ReplaysAreOne → text ≡ summary_text history → IsSummary start n c text
+summary start n c history spent text is replay one counts = record {
   history = history;
   replays = subst (λ s. Replays (workload start n c) history s) (walks start n c history spent is replay).0 replay;
+  only = λ other limit replays. (one (workload start n c) other history limit spent replays replay).0;
   counts = counts;
 }
+
+pub summaries_are_one : SummariesAreOne
+summaries_are_one start n c one other first second =
+    first.counts ∙ ap summary_text (second.only first.history None first.replays) ∙ sym second.counts

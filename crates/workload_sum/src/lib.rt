@@ -3,7 +3,9 @@
 
 mod counting;
 mod kind;
+mod laws;
 mod summary;
 
 pub use kind::Kind;
+pub use laws::summaries_are_one;
 pub use summary::sum;

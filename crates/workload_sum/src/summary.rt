@@ -9,7 +9,7 @@ ghost use Rattle.workload_sum.specs.Summary.{IsSummary};
 
 use crate::counting::push_summary;
 use irq_base::{Bytes, History, NoMemory};
-use replaying::replay;
+use replaying::{replay, replays_are_one};
 use script_text::{Script, ScriptFault, parse};
 use std::alloc::{AllocError, Global};
 use workload_gen::{generate, workloads_are_read};
@@ -37,12 +37,13 @@ fn lines_of(alloc: Global, history: &History) -> Result<String, AllocError>
     Ok(text)
 }
 
-/// Replays the script of three numbers, and counts what is replied: the eight lines of its summary. The numbers are where the
-/// draws start, how many lines are drawn (at most 400,000), and how many processors there are (1 to 64).
+/// Replays the script of three numbers, and counts what is replied: the eight lines of its summary, a function of these numbers, which
+/// are where the draws start, how many lines are drawn (at most 400,000), and how many processors there are (1 to 64).
 pub fn sum(alloc: Global, start: u64, lines: u32, cpus: u16) -> Result<Bytes, NoMemory>
     requires { IsInRange lines cpus }
     ensures { IfOk result (λ bytes. IsSummary start lines cpus bytes) }
 {
+    replays_are_one();
     let script = script(alloc, start, lines, cpus)?;
     let run = replay(alloc, &script)?;
     match lines_of(alloc, &run.history) {

@@ -7,5 +7,5 @@ pub returns-in-Ok : goal.returns-in-Ok
 returns-in-Ok c =
     let run = c.in_ok-run.run' in
     summary c.args.start c.args.lines c.args.cpus run.history run.spent c.of.result c.requires
-    (subst (λ s. Replays s run.history run.spent) c.in_ok-script.ensures c.in_ok-run.ensures)
+    (subst (λ s. Replays s run.history run.spent) c.in_ok-script.ensures c.in_ok-run.ensures) c.replays_are_one.ensures
     (c.of.ensures ∙ ap (λ v. v.items) c.into_bytes.ensures.value ∙ c.in-Ok.ensures)

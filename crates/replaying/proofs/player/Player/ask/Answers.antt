@@ -1,6 +1,5 @@
-use Rattle.std.proofs.Common.{List, [], ◌∷◌, ◌++◌, ◌∙◌, subst, ap}
+use Rattle.std.proofs.Common.{List, [], ◌∷◌, ◌++◌, ◌∙◌, ap}
 use Rattle.irq_base.specs.declared.event.Event.{Event}
-use Rattle.board_step.specs.Applied.{Applied}
 use Rattle.board_step.specs.Bodies.{entry_of}
 use Rattle.replaying.proofs.Answering.{answered_ok, applied_shape}
 use Rattle.replaying.proofs.player.Player.ask.Goals as goal
@@ -18,6 +17,6 @@ returns-in_ok-keep-in-Ok-clause-answered c =
     let who = c.args.caller in
     let call = c.args.call.now in
     let history = c.args.self.now.history in
-    answered_ok c.args.self.now.board who call c.in-Ok.done c.apply.new.events.items c.apply.new.self history c.keep.new.history c.keeps_sound.ensures
-    (subst (λ (es : List Event). Applied c.args.self.now.board who call c.in-Ok.done es c.apply.new.events.items c.apply.new.self) c.clear.ensures c.in-Ok.ensures.applied)
+    answered_ok c.args.self.now.board who call c.in-Ok.done c.clear.new.self.items c.apply.new.events.items c.apply.new.self history c.keep.new.history
+    c.in-Ok.ensures.whole c.clear.ensures
     (c.in_ok-keep-in-Ok.ensures ∙ ap (λ (es : List Event). history ++ entry_of who call c.in-Ok.done.reply es ∷ []) c.as_slice.ensures.value)
