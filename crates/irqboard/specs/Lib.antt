@@ -5,4 +5,5 @@ pub mod Commands
 pub mod Works
 pub mod Done
 pub mod Answers
+pub mod Making
 pub mod Words

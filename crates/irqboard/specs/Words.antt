@@ -1,5 +1,5 @@
 -- The words of the command line, and what comes where there are none.
-use Rattle.std.specs.Prelude.{◌≡◌, ◌↔◌, ℕ, List, map, drop, string_bytes, Result, Ok, Err, None, String}
+use Rattle.std.specs.Prelude.{◌≡◌, ◌↔◌, ℕ, List, map, drop, string_bytes, Result, Ok, Err, String}
 use Rattle.std.specs.IoError.{error_kind}
 use Rattle.std.specs.Vec.Iter.{into_iter_items}
 use Rattle.std.specs.declared.alloc.Global.{Global}
@@ -7,7 +7,7 @@ use Rattle.std.specs.declared.io.Error.{Error}
 use Rattle.std.specs.declared.io.ErrorKind.{ErrorKind}
 use Rattle.std.specs.declared.io.ErrorKind.TheVariants.{OutOfMemory}
 use Rattle.std.specs.declared.vec.IntoIter.{IntoIter}
-use Rattle.irqboard.specs.Commands.{command_of}
+use Rattle.irqboard.specs.Making.{AreNone}
 use Rattle.irqboard.specs.declared.outcome.Outcome.{Outcome}
 use Rattle.irqboard.specs.declared.outcome.Outcome.TheVariants.{Usage, NoMemory}
 
@@ -24,8 +24,8 @@ abbrev pub without_words : ErrorKind → Outcome
 without_words OutOfMemory = NoMemory
 without_words _ = Usage
 
--- the words are none exactly where that is the answer, but for want of memory
+-- the words ask for nothing exactly where that is the answer, but for want of memory
 abbrev pub KnowsWords : Result Texts Error → Outcome → Type 0
 KnowsWords (Err e) outcome = outcome ≡ without_words (error_kind e)
 KnowsWords (Ok texts) NoMemory = Unit {0}
-KnowsWords (Ok texts) outcome = (outcome ≡ Usage) ↔ (command_of (words_in texts) ≡ None)
+KnowsWords (Ok texts) outcome = (outcome ≡ Usage) ↔ AreNone (words_in texts)

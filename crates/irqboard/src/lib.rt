@@ -1,13 +1,14 @@
-//! The interrupt board's top call: the words of a command line and bytes in, a transcript, a verdict or a named answer out.
+//! The interrupt board's top call: the words of a command line and bytes in, a transcript, a verdict, a generated text or a named answer out.
 //!
 //! `irqboard` is all that the program does, over any source, sink and gate; `asked`, `said` and the report of `Ended` add the words
 //! of the command line, the line on standard error and the exit status. Its contract says of each answer when it comes: `Works` says what
 //! is written at `Outcome::Fine`, `Outcome::Spent` and `Outcome::NotLegal`.
 //!
-//! Reading order of the definitions: `Parting`, `Works`, `Commands`, `Input`, `Output`, `Answers`, `Words`.
+//! Reading order of the definitions: `Parting`, `Works`, `Commands`, `Input`, `Output`, `Answers`, `Making`, `Words`.
 #![tactic(auto)]
 
 mod command;
+mod making;
 mod outcome;
 mod parting;
 mod program;
@@ -18,6 +19,7 @@ mod work;
 mod writing;
 
 pub use command::Command;
+pub use making::{Making, Product};
 pub use outcome::Outcome;
 pub use program::{Answered, Ended, asked};
-pub use top::{check_text, irqboard, replay};
+pub use top::{check_text, gen_text, irqboard, replay, sum_text};

@@ -4,6 +4,7 @@ ghost use Rattle.std.specs.Io.KnownBytes.{Appends};
 ghost use Rattle.io_edge.specs.Faults.{Rose};
 ghost use Rattle.irqboard.specs.Commands.{command_of};
 ghost use Rattle.irqboard.specs.Answers.{status_of, said_of, ReadsRightly, JudgesRightly, WritesRightly, KeepsSilent, IsGood, IsAnswered};
+ghost use Rattle.irqboard.specs.Making.{making_of, IsMade, MakesRightly};
 ghost use Rattle.irqboard.specs.Output.{AppendsFront};
 ghost use Rattle.irqboard.specs.Words.{words_in, KnowsWords};
 ghost use Rattle.std.specs.Process.{exit_status};
@@ -61,6 +62,9 @@ pub fn asked<S: Source, K: Sink, G: Gate>(
         JudgesRightly command (S.left source.old) (S.left source.new) result)) }
     ensures output { IfOk texts (λ t. IfSome (command_of (words_in t)) (λ command.
         WritesRightly command (S.left source.old) (K.holds sink.old) (K.holds sink.new) result)) }
+    ensures made { IfOk texts (λ t. IfSome (making_of (words_in t)) (λ making.
+        MakesRightly (IsMade making) (K.holds sink.old) (K.holds sink.new) result)) }
+    ensures unread { IfOk texts (λ t. IfSome (making_of (words_in t)) (λ _. S.left source.new ≡ S.left source.old)) }
     ensures silent { KeepsSilent (K.holds sink.old) (K.holds sink.new) result }
     ensures read_fault { result ≡ Outcome.ReadFault → Rose (S.faults source.old) (S.faults source.new) }
     ensures write_fault { result ≡ Outcome.WriteFault → Rose (K.faults sink.old) (K.faults sink.new) }

@@ -3,8 +3,13 @@ ghost use Rattle.std.specs.Prelude.{◌≡◌, ◌≢◌, ◌↔◌, None, IfSom
 ghost use Rattle.io_edge.specs.Faults.{Rose};
 ghost use Rattle.irqboard.specs.Commands.{command_of};
 ghost use Rattle.irqboard.specs.Answers.{ReadsRightly, JudgesRightly, WritesRightly, KeepsSilent, IsGood, IsAnswered};
+ghost use Rattle.irqboard.specs.Making.{making_of, AreNone, IsMade, MakesRightly};
+ghost use Rattle.workload_gen.specs.Laws.{IsInRange};
+ghost use Rattle.workload_gen.specs.Text.{workload_text};
+ghost use Rattle.workload_sum.specs.Summary.{IsSummary};
 
 use crate::command::{Command, command_of};
+use crate::making::{Making, Product, making_of};
 use crate::outcome::Outcome;
 use crate::reading::{Stop, read_whole};
 use crate::work::work_of;
@@ -12,6 +17,8 @@ use crate::writing::write_whole;
 use io_edge::{Gate, Sink, Source, Word};
 use script_text::ScriptFault;
 use std::alloc::Global;
+use workload_gen::generate;
+use workload_sum::sum;
 
 // Reads the whole input, does the work of a command on it, and writes the text of the work.
 fn run<S: Source, K: Sink>(alloc: Global, command: Command, source: &mut S, sink: &mut K) -> Outcome
@@ -86,8 +93,62 @@ pub fn check_text<S: Source, K: Sink>(alloc: Global, source: &mut S, sink: &mut 
     run(alloc, Command::Check, source, sink)
 }
 
-/// All that the program does: the word `replay` alone replays a script, the word `check` alone checks a transcript, and any other words
-/// are refused. The gate is for words that run actors side by side.
+/// Writes the generated script of three numbers: where the draws start, how many lines are drawn, and how many processors there are. Where
+/// the sink does not fail, it answers `Fine` or want of memory.
+pub fn gen_text<K: Sink>(alloc: Global, start: u64, lines: u32, cpus: u16, sink: &mut K) -> Outcome
+    requires { IsInRange lines cpus }
+    ensures output { MakesRightly (λ text. text ≡ workload_text start lines cpus) (K.holds sink.old) (K.holds sink.new) result }
+    ensures write_fault { result ≡ Outcome.WriteFault → Rose (K.faults sink.old) (K.faults sink.new) }
+    ensures sink_faults { result ≢ Outcome.WriteFault → K.faults sink.new ≡ K.faults sink.old }
+{
+    let Ok(text) = generate(alloc, start, lines, cpus) else {
+        return Outcome::NoMemory;
+    };
+    match write_whole(sink, text.as_slice()) {
+        Ok(()) => Outcome::Fine,
+        Err(_) => Outcome::WriteFault,
+    }
+}
+
+/// Replays the generated script of three numbers, and writes the eight lines of its summary, which is a function of these numbers. Where the
+/// sink does not fail, it answers `Fine` or want of memory.
+pub fn sum_text<K: Sink>(alloc: Global, start: u64, lines: u32, cpus: u16, sink: &mut K) -> Outcome
+    requires { IsInRange lines cpus }
+    ensures output { MakesRightly (IsSummary start lines cpus) (K.holds sink.old) (K.holds sink.new) result }
+    ensures write_fault { result ≡ Outcome.WriteFault → Rose (K.faults sink.old) (K.faults sink.new) }
+    ensures sink_faults { result ≢ Outcome.WriteFault → K.faults sink.new ≡ K.faults sink.old }
+{
+    let Ok(text) = sum(alloc, start, lines, cpus) else {
+        return Outcome::NoMemory;
+    };
+    match write_whole(sink, text.as_slice()) {
+        Ok(()) => Outcome::Fine,
+        Err(_) => Outcome::WriteFault,
+    }
+}
+
+// Makes and writes what is asked for.
+fn made<K: Sink>(alloc: Global, making: Making, sink: &mut K) -> Outcome
+    requires { IsInRange making.lines making.cpus }
+    ensures output { MakesRightly (IsMade making) (K.holds sink.old) (K.holds sink.new) result }
+    ensures write_fault { result ≡ Outcome.WriteFault → Rose (K.faults sink.old) (K.faults sink.new) }
+    ensures sink_faults { result ≢ Outcome.WriteFault → K.faults sink.new ≡ K.faults sink.old }
+{
+    let Making {
+        product,
+        start,
+        lines,
+        cpus,
+    } = making;
+    match product {
+        Product::Workload => gen_text(alloc, start, lines, cpus, sink),
+        Product::Summary => sum_text(alloc, start, lines, cpus, sink),
+    }
+}
+
+/// All that the program does: the word `replay` alone replays a script, the word `check` alone checks a transcript, `gen` with three numbers
+/// writes a generated script and `sum` with three numbers its summary, and any other words are refused. `gen` and `sum` read nothing.
+/// The gate is for words that run actors side by side.
 pub fn irqboard<S: Source, K: Sink, G: Gate>(
     alloc: Global,
     words: &[Word],
@@ -95,12 +156,15 @@ pub fn irqboard<S: Source, K: Sink, G: Gate>(
     sink: &mut K,
     _gate: &G,
 ) -> Outcome
-    ensures usage { (result ≡ Outcome.Usage) ↔ (command_of words.now ≡ None) }
+    ensures usage { (result ≡ Outcome.Usage) ↔ AreNone words.now }
     ensures length { ReadsRightly (S.left source.old) (S.left source.new) result }
     ensures input { IfSome (command_of words.now) (λ command.
         JudgesRightly command (S.left source.old) (S.left source.new) result) }
     ensures output { IfSome (command_of words.now) (λ command.
         WritesRightly command (S.left source.old) (K.holds sink.old) (K.holds sink.new) result) }
+    ensures made { IfSome (making_of words.now) (λ making.
+        MakesRightly (IsMade making) (K.holds sink.old) (K.holds sink.new) result) }
+    ensures unread { IfSome (making_of words.now) (λ _. S.left source.new ≡ S.left source.old) }
     ensures silent { KeepsSilent (K.holds sink.old) (K.holds sink.new) result }
     ensures read_fault { result ≡ Outcome.ReadFault → Rose (S.faults source.old) (S.faults source.new) }
     ensures write_fault { result ≡ Outcome.WriteFault → Rose (K.faults sink.old) (K.faults sink.new) }
@@ -114,6 +178,9 @@ pub fn irqboard<S: Source, K: Sink, G: Gate>(
     match command_of(words) {
         Some(Command::Replay) => replay(alloc, source, sink),
         Some(Command::Check) => check_text(alloc, source, sink),
-        None => Outcome::Usage,
+        None => match making_of(words) {
+            Some(making) => made(alloc, making, sink),
+            None => Outcome::Usage,
+        },
     }
 }
