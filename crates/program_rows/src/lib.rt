@@ -8,6 +8,8 @@ mod edges;
 #[cfg(test)]
 mod ends;
 #[cfg(test)]
+mod makings;
+#[cfg(test)]
 mod replays;
 #[cfg(test)]
 mod rows;
