@@ -5,7 +5,7 @@
 //! a pass has seen to another pass, or to the desk.
 //!
 //! Reading order of the definitions: `Callers` (sets of callers), `Seen` (what a pass, a note and a desk know), `Tried` (what an
-//! attempt of a call comes to), `Closing` (how a board ends).
+//! attempt of a call comes to), `Routed` (where a GSI goes), `Closing` (how a board ends).
 #![tactic(auto)]
 
 mod callers;
@@ -20,6 +20,7 @@ mod live;
 mod note;
 mod opening;
 mod pass;
+mod routing;
 mod trying;
 
 pub use closed::{Closed, Missing};
@@ -29,3 +30,4 @@ pub use live::LiveBoard;
 pub use note::Note;
 pub use part_attempt::NotNow;
 pub use pass::Pass;
+pub use routing::Moved;
