@@ -1,43 +1,14 @@
 -- A call that is answered with a status says what its status tells, and one without effect leaves the requests.
-use Rattle.std.proofs.Common.{◌≡◌, ℕ, Bool, true, false, nat_eq, if◌then◌else◌, ◌⊎◌, inl, inr, List, [], ◌∷◌, option_map, refl, sym, ap, ◌∙◌, subst, true≢false, Some, None}
-use Rattle.std.specs.declared.option.Option.{Option}
-use Rattle.irq_base.specs.Refusals.{first_of}
-use Rattle.irq_base.specs.declared.call.Call.{Call}
-use Rattle.irq_base.specs.declared.call.Call.TheVariants as calls
-use Rattle.irq_base.specs.declared.call.Caller.{Caller}
-use Rattle.irq_base.specs.declared.message.MsiWord.{MsiWord}
-use Rattle.irq_base.specs.declared.message.Source.{Source}
-use Rattle.irq_base.specs.declared.message.Source.TheVariants.{Line, Pulse, Resample, Tick}
-use Rattle.irq_base.specs.declared.message.Targets.{Targets}
-use Rattle.irq_base.specs.declared.refusal.Refusal.{Refusal}
-use Rattle.irq_base.specs.declared.reply.Reply.{Reply}
-use Rattle.irq_base.specs.declared.reply.Reply.TheVariants.{Signal, Done}
-use Rattle.irq_base.specs.declared.shape.Part.TheVariants as parts
-use Rattle.irq_base.specs.declared.shape.Part.TheVariants.{Lapic}
-use Rattle.irq_base.specs.declared.status.Cause.TheVariants.{Masked}
-use Rattle.irq_base.specs.declared.status.Status.{Status}
+use Rattle.board_step.proofs.Basics.{◌≡◌, ℕ, Bool, true, false, nat_eq, if◌then◌else◌, ◌⊎◌, inl, inr, List, [], ◌∷◌, option_map, refl, sym, ap, ◌∙◌, subst, true≢false, Some, None, Option}
+use Rattle.board_step.proofs.Types.calls
+use Rattle.board_step.proofs.Types.parts
+use Rattle.board_step.proofs.Types.raises
+use Rattle.board_step.proofs.Types.{first_of, Call, Caller, MsiWord, Source, Line, Resample, Targets, Refusal, Reply, Signal, Done, Lapic, Masked, Status, Raise, TickState, TriggerWord}
+use Rattle.board_step.proofs.Chips.{raise_of, pin_outcome, message_in, ticked, tick_injects, tick_injected}
+use Rattle.board_step.proofs.Plans.{Board, part_of, PicPart, IoapicPart, pair_of, ioapic_of, Routing, routing_of_registry, nobody, TargetAnswer, stood_already, no_effect, status_of, About, the_reply, done, change, reply, ◌>>◌, Wishes, Outcome, run}
+use Rattle.board_step.proofs.Calls.{send, pic_raised, pic_answer, ioapic_raised, is_accepted, accept_pin, ioapic_answered, raise_other, raise, let_go_pic, let_go_ioapic, let_go, let_go_after, lowered_status, lower, inject, HasProcessors, range_reasons, unless_refused, source_of, trigger_written, write, tick_or_hold, number_of, plan_in_range}
+use Rattle.irq_base.specs.declared.message.Source.TheVariants.{Tick}
 use Rattle.irq_base.specs.declared.status.Status.TheVariants.{Lowered}
-use Rattle.ioapic_82093aa.specs.declared.ioapic.Raise.{Raise}
-use Rattle.ioapic_82093aa.specs.declared.ioapic.Raise.TheVariants as raises
-use Rattle.ioapic_82093aa.specs.Pins.{raise_of}
-use Rattle.pic_8259a.specs.Pair.{pin_outcome}
-use Rattle.msi_decode.specs.Messages.{message_in}
-use Rattle.tick_reinject.specs.declared.state.TickState.{TickState}
-use Rattle.tick_reinject.specs.Ticks.{ticked, tick_injects, tick_injected}
-use Rattle.board_model.specs.declared.trigger.TriggerWord.{TriggerWord}
-use Rattle.board_model.specs.Board.{Board, part_of}
-use Rattle.board_model.specs.Chips.{PicPart, IoapicPart, pair_of, ioapic_of}
-use Rattle.board_model.specs.Routing.{Routing, routing_of_registry}
-use Rattle.board_model.specs.Statuses.{nobody, TargetAnswer, stood_already, no_effect, status_of}
-use Rattle.board_model.specs.Plan.{About, the_reply, done, change, reply, ◌>>◌}
-use Rattle.board_model.specs.Run.{Wishes, Outcome, run}
-use Rattle.board_raise.specs.Send.{send}
-use Rattle.board_raise.specs.Signal.{pic_raised, pic_answer, ioapic_raised, is_accepted, accept_pin, ioapic_answered, raise_other, raise, let_go_pic, let_go_ioapic, let_go, let_go_after, lowered_status, lower, inject}
-use Rattle.board_raise.specs.Laws.{HasProcessors}
-use Rattle.board_calls.specs.Refusals.{range_reasons}
-use Rattle.board_calls.specs.Registrations.{unless_refused, source_of, trigger_written, write}
-use Rattle.board_calls.specs.Ticks.{tick_or_hold}
-use Rattle.board_calls.specs.Calls.{number_of, plan_in_range}
 use Rattle.board_step.specs.Step.{plan_on, outcome_of, with_counts, would_publish}
 use Rattle.board_laws.specs.Effect.{message_target, signal_targets, message_raised, pic_answer_on, raise_answer_on, IsSaidOf, is_without_effect, ChangesNoRequest, CoalescedAndIgnoredChangeNoRequest}
 use Rattle.board_laws.proofs.EffectStood.{raise_stood, raised_stood}
@@ -65,9 +36,7 @@ module _ (b : Board) where
 
   let_go_after_spares : (targets : Targets) (source : Source) → Spares b (let_go_after targets source)
   let_go_after_spares targets Resample = tt
-  let_go_after_spares targets (Line n) = let_go_spares targets (Line n)
-  let_go_after_spares targets Pulse = let_go_spares targets Pulse
-  let_go_after_spares targets Tick = let_go_spares targets Tick
+  let_go_after_spares targets other = let_go_spares targets other
 
 -- ---- signals whose status is the reply
 
@@ -198,22 +167,7 @@ module _ (b : Board) (stand : HasProcessors b b.shape.cpus) where
   range_judged n (calls.Msi address payload) ws = inl (message_judged address payload n ws)
   range_judged n (calls.Write counter count) ws = write_judged counter count (routing.trigger counter) refl ws
   range_judged n calls.Tick ws = tick_judged (tick_injects b.tick) ws
-  range_judged n (calls.Take counter) ws = mute_judged n (calls.Take counter) ws (call_mute routing b.shape n (calls.Take counter) refl)
-  range_judged n (calls.Assign trigger gsi resample) ws = mute_judged n (calls.Assign trigger gsi resample) ws (call_mute routing b.shape n (calls.Assign trigger gsi resample) refl)
-  range_judged n (calls.Deassign trigger gsi) ws = mute_judged n (calls.Deassign trigger gsi) ws (call_mute routing b.shape n (calls.Deassign trigger gsi) refl)
-  range_judged n (calls.Reroute rows) ws = mute_judged n (calls.Reroute rows) ws (call_mute routing b.shape n (calls.Reroute rows) refl)
-  range_judged n (calls.Attach space address len counter want) ws = mute_judged n (calls.Attach space address len counter want) ws (call_mute routing b.shape n (calls.Attach space address len counter want) refl)
-  range_judged n (calls.Detach space address len counter want) ws = mute_judged n (calls.Detach space address len counter want) ws (call_mute routing b.shape n (calls.Detach space address len counter want) refl)
-  range_judged n (calls.Watch counter gsi) ws = mute_judged n (calls.Watch counter gsi) ws (call_mute routing b.shape n (calls.Watch counter gsi) refl)
-  range_judged n (calls.Unwatch counter gsi) ws = mute_judged n (calls.Unwatch counter gsi) ws (call_mute routing b.shape n (calls.Unwatch counter gsi) refl)
-  range_judged n (calls.TickMode reinject) ws = mute_judged n (calls.TickMode reinject) ws (call_mute routing b.shape n (calls.TickMode reinject) refl)
-  range_judged n (calls.PortOut port len value) ws = mute_judged n (calls.PortOut port len value) ws (call_mute routing b.shape n (calls.PortOut port len value) refl)
-  range_judged n (calls.PortIn port len) ws = mute_judged n (calls.PortIn port len) ws (call_mute routing b.shape n (calls.PortIn port len) refl)
-  range_judged n (calls.Store address len value) ws = mute_judged n (calls.Store address len value) ws (call_mute routing b.shape n (calls.Store address len value) refl)
-  range_judged n (calls.Load address len) ws = mute_judged n (calls.Load address len) ws (call_mute routing b.shape n (calls.Load address len) refl)
-  range_judged n calls.Ack ws = mute_judged n calls.Ack ws (call_mute routing b.shape n calls.Ack refl)
-  range_judged n calls.Inta ws = mute_judged n calls.Inta ws (call_mute routing b.shape n calls.Inta refl)
-  range_judged n calls.Eoi ws = mute_judged n calls.Eoi ws (call_mute routing b.shape n calls.Eoi refl)
+  range_judged n call ws = mute_judged n call ws (call_mute routing b.shape n call refl)
 
   call_judged : (caller : Caller) (call : Call) (ws : Wishes) → Judged call (run (plan_on b caller call) b ws)
   call_judged caller call ws = of_refusal (first_of (range_reasons b.shape call))
