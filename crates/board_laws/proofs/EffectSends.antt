@@ -4,7 +4,7 @@ use Rattle.board_step.proofs.Basics.{◌≡◌, ℕ, zero, suc, ◌<◌, Bool, t
 use Rattle.board_step.proofs.Types.outcomes
 use Rattle.board_step.proofs.Types.{Numbers, contains-insert_number, Message, Targets, Signal, Part, Registry, Counters, Tick, Pic, Ioapic, Lapic, Cause, NoProcessor, BadVector, BadMode, Status, Chip, PinOutcome, Pair, TickState}
 use Rattle.board_step.proofs.Chips.{pin_outcome, LocalApic, power_on, is_enabled, is_nmi, is_taken, accepted, with_error, with_request}
-use Rattle.board_step.proofs.Plans.{ValueOf, Board, part_of, with_part, PicPart, IoapicPart, pair_of, Sent, nobody, is_empty, TargetAnswer, newly_taken, stood_already, no_effect, message_answer, status_of, About, the_reply, Plan, done, look, put, tell, answer, choose, ◌>>=◌, Wishes, Outcome, run}
+use Rattle.board_step.proofs.Plans.{ValueOf, Board, part_of, with_part, PicPart, IoapicPart, pair_of, Sent, nobody, is_empty, TargetAnswer, newly_taken, stood_already, no_effect, message_answer, status_of, About, the_reply, Plan, done, put, answer, ◌>>=◌, Wishes, Outcome, run}
 use Rattle.board_step.proofs.Calls.{Processor, named_by, numbers_of, MayReach, ignore, numbers_below, reached_by, see_each, is_illegal, accept_each, deliver, refuse_vector, send_to, send, pic_answer, processors_on, named_on, HasProcessors, IsSending, has_request_on}
 use Rattle.std.proofs.Common.{is_some}
 use Rattle.irq_base.specs.declared.message.Mode.{Mode}
@@ -18,6 +18,7 @@ use Rattle.board_raise.proofs.SendExactly.{after_seen, wishes_reach_exactly}
 use Rattle.board_raise.proofs.EffectNamed.{has_any, named_alike}
 use Rattle.board_laws.specs.Effect.{message_on, PicStood, IoapicStood, RequestStood, pic_answer_on, message_answer_by, message_answer_on, other_answer_on, IsSaidOf, is_without_effect, SameRequests}
 use Rattle.board_laws.proofs.EffectStood.{has_stood, pin_stood, ignored_for}
+use Rattle.board_step.proofs.Walk.{Walk, Holds, of_relation, either}
 
 -- ---- plans that answer nothing and leave the requests of a board
 
@@ -30,39 +31,14 @@ HasRequests b Pic v = Unit {0}
 HasRequests b Ioapic v = Unit {0}
 HasRequests b (Lapic n) v = v.irr ≡ (part_of b (Lapic n)).irr
 
--- a plan answers nothing, sends nothing and writes such values alone
-abbrev pub Spares : {A : Type 0} → Board → Plan A → Type 0
-Spares b (done a) = Unit {0}
-Spares b (look p k) = (v : ValueOf p) → Spares b (k v)
-Spares b (put p v rest) = HasRequests b p v × Spares b rest
-Spares b (tell x rest) = Spares b rest
-Spares b (answer r rest) = ⊥
-Spares b (choose m about g k) = ⊥
-
 module _ (b : Board) where
-  pub spares_bind : {A B : Type 0} (f : A → Plan B) (m : Plan A) → Spares b m → ((a : A) → Spares b (f a)) → Spares b (m >>= f)
-  spares_bind f (done a) h next = next a
-  spares_bind f (look p k) h next = λ v. spares_bind f (k v) (h v) next
-  spares_bind f (put p v rest) h next = (h.0, spares_bind f rest h.1 next)
-  spares_bind f (tell x rest) h next = spares_bind f rest h next
-  spares_bind f (answer r rest) h next = absurd h
-  spares_bind f (choose m about g k) h next = absurd h
-
-  spares_answers : {A : Type 0} (m : Plan A) (c : Board) (ws : Wishes) → Spares b m → (run m c ws).log.answers ≡ []
-  spares_answers (done a) c ws h = refl
-  spares_answers (look p k) c ws h = spares_answers (k (part_of c p)) c ws (h (part_of c p))
-  spares_answers (put p v rest) c ws h = spares_answers rest (with_part c p v) ws h.1
-  spares_answers (tell x rest) c ws h = spares_answers rest c ws h
-  spares_answers (answer r rest) c ws h = absurd h
-  spares_answers (choose m about g k) c ws h = absurd h
-
   -- where one is written, whether it is there or not, its requests are those of the board
   written_there : (xs : List LocalApic) (n : ℕ) (v d : LocalApic) (r : Numbers) → v.irr ≡ r → (unwrap_or (slice_get xs n) d).irr ≡ r → (unwrap_or (slice_get (slice_set xs n v) n) d).irr ≡ r
   written_there [] n v d r new old = old
   written_there (x ∷ xs) zero v d r new old = new
   written_there (x ∷ xs) (suc n) v d r new old = written_there xs n v d r new old
 
-  with_requests : (c : Board) (p : Part) (v : ValueOf p) → HasRequests b p v → SameRequests b c → SameRequests b (with_part c p v)
+  pub with_requests : (c : Board) (p : Part) (v : ValueOf p) → HasRequests b p v → SameRequests b c → SameRequests b (with_part c p v)
   with_requests c (Lapic n) v h same = λ m. elim (nat_eq n m) as (λ t. nat_eq n m ≡ t → (part_of (with_part c (Lapic n) v) (Lapic m)).irr ≡ (part_of b (Lapic m)).irr) [
     | true ↦ λ is. let e : n ≡ m = grind (is, arith) in
         subst (λ k. (part_of (with_part c (Lapic n) v) (Lapic k)).irr ≡ (part_of b (Lapic k)).irr) e (written_there c.lapics n v (power_on n) (part_of b (Lapic n)).irr h (same n))
@@ -70,13 +46,17 @@ module _ (b : Board) where
   ] refl
   with_requests c _ v h same = same
 
-  pub spares_requests : {A : Type 0} (m : Plan A) (c : Board) (ws : Wishes) → Spares b m → SameRequests b c → SameRequests b (run m c ws).board
-  spares_requests (done a) c ws h same = same
-  spares_requests (look p k) c ws h same = spares_requests (k (part_of c p)) c ws (h (part_of c p)) same
-  spares_requests (put p v rest) c ws h same = spares_requests rest (with_part c p v) ws h.1 (with_requests c p v h.0 same)
-  spares_requests (tell x rest) c ws h same = spares_requests rest c ws h same
-  spares_requests (answer r rest) c ws h same = absurd h
-  spares_requests (choose m about g k) c ws h same = absurd h
+  -- an outcome answers nothing and leaves the requests, where such values alone are written
+  abbrev pub spared : Walk
+  spared = of_relation (record {
+    Good = λ c o. (o.log.answers ≡ []) × (SameRequests b c → SameRequests b o.board);
+    Fit = λ c. Unit {0};
+    May = λ c p v. HasRequests b p v;
+    starts = λ a c ws fit. (refl, λ same. same);
+    puts = λ p v c o fit may h. (h.0, λ same. h.1 (with_requests c p v may same));
+    fits = λ p v c fit may. tt;
+    joins = λ f c o fit h next. let k = next tt in ((λ i. h.0 i ++ k.0 i), λ same. k.1 (h.1 same));
+  })
 
 -- ---- plans that answer one status
 
@@ -88,23 +68,23 @@ pub record Says {A : Type 0} (b : Board) (targets : Targets) (o : Outcome A) : T
 
 module _ (b : Board) (targets : Targets) {A B : Type 0} (f : A → Plan B) (m : Plan A) (c : Board) (ws : Wishes) where
   -- after the status the rest is spared
-  pub says_before : Says b targets (run m c ws) → ((a : A) → Spares b (f a)) → Says b targets (run (m >>= f) c ws)
+  pub says_before : Says b targets (run m c ws) → ((a : A) → Holds (spared b) (f a)) → Says b targets (run (m >>= f) c ws)
   says_before first next =
       let o = run m c ws in
       subst (λ (x : Outcome B). Says b targets x) (sym (run-bind f m c ws)) (record {
         status = first.status;
-        answers = ap (λ l. o.log.answers ++ l) (spares_answers b (f o.value) o.board o.wishes (next o.value)) ∙ append-nil o.log.answers ∙ first.answers;
-        effect = λ quiet. let here = first.effect quiet in (here.0, spares_requests b (f o.value) o.board o.wishes (next o.value) here.1);
+        answers = ap (λ l. o.log.answers ++ l) (next o.value o.board o.wishes tt).0 ∙ append-nil o.log.answers ∙ first.answers;
+        effect = λ quiet. let here = first.effect quiet in (here.0, (next o.value o.board o.wishes tt).1 here.1);
       })
 
   -- before the status all is spared
-  pub says_after : Spares b m → SameRequests b c → ((a : A) (d : Board) (vs : Wishes) → SameRequests b d → Says b targets (run (f a) d vs)) → Says b targets (run (m >>= f) c ws)
+  pub says_after : Holds (spared b) m → SameRequests b c → ((a : A) (d : Board) (vs : Wishes) → SameRequests b d → Says b targets (run (f a) d vs)) → Says b targets (run (m >>= f) c ws)
   says_after first same next =
       let o = run m c ws in
-      let later = next o.value o.board o.wishes (spares_requests b m c ws first same) in
+      let later = next o.value o.board o.wishes ((first c ws tt).1 same) in
       subst (λ (x : Outcome B). Says b targets x) (sym (run-bind f m c ws)) (record {
         status = later.status;
-        answers = ap (λ l. l ++ (run (f o.value) o.board o.wishes).log.answers) (spares_answers b m c ws first) ∙ later.answers;
+        answers = ap (λ l. l ++ (run (f o.value) o.board o.wishes).log.answers) (first c ws tt).0 ∙ later.answers;
         effect = later.effect;
       })
 
@@ -243,12 +223,14 @@ module _ (b : Board) (stand : HasProcessors b b.shape.cpus) (targets : Targets) 
     named_is = ap (named_by message None) (processors_alike (numbers_below b.shape.cpus))
 
     -- the illegal vector is recorded alone
-    refused_spares : (takers : Numbers) (ns : List ℕ) → is_illegal message ≡ true → Spares b (accept_each message takers (processors_on d ns))
-    refused_spares takers [] illegal = tt
-    refused_spares takers (n ∷ ns) illegal = elim (set.contains takers n) as (λ t. Spares b (if t then put (Lapic n) (accepted (part_of b (Lapic n)) message) (accept_each message takers (processors_on d ns)) else accept_each message takers (processors_on d ns))) [
-      | true ↦ (illegal_stays (part_of b (Lapic n)) message illegal, refused_spares takers ns illegal)
-      | false ↦ refused_spares takers ns illegal
-    ]
+    refused_spares : (takers : Numbers) (ns : List ℕ) → is_illegal message ≡ true → Holds (spared b) (accept_each message takers (processors_on d ns))
+    refused_spares takers [] illegal = λ c ws fit. (refl, λ same. same)
+    refused_spares takers (n ∷ ns) illegal =
+        let v = accepted (part_of b (Lapic n)) message in
+        let rest = accept_each message takers (processors_on d ns) in
+        either (spared b) (set.contains takers n) (put (Lapic n) v rest) rest
+        (λ c ws fit. (spared b).puts (Lapic n) v rest c ws fit (illegal_stays (part_of b (Lapic n)) message illegal) (λ fit. refused_spares takers ns illegal (with_part c (Lapic n) v) ws fit))
+        (refused_spares takers ns illegal)
 
     -- a message that was sent
     module _ (p : Processor) (ps : List Processor) (taken : is_taken message.mode ≡ true) (named : named_on d b.shape.cpus message None ≡ p ∷ ps) (legal : is_illegal message ≡ false) where
