@@ -1,36 +1,12 @@
 -- What an outcome takes off the pending ticks, and which injections its events may tell; acknowledges take a tick each.
-use Rattle.std.proofs.Common.{◌≡◌, ℕ, ◌+◌, ◌-◌, Bool, true, false, not, ◌&&◌, ◌||◌, nat_eq, if◌then◌else◌, List, [], ◌∷◌, ◌++◌, map, refl, sym, ap, subst, ◌∙◌, arith, Some, None}
-use Rattle.std.specs.declared.option.Option.{Option}
-use Rattle.irq_base.specs.declared.event.Event.{Event}
-use Rattle.irq_base.specs.declared.event.Event.TheVariants.{Acked, Resampled, Watched, Rang, Injected, Resent, Ipi}
-use Rattle.irq_base.specs.declared.event.Pin.{Pin}
-use Rattle.irq_base.specs.declared.event.Pin.TheVariants as pins
-use Rattle.irq_base.specs.declared.message.Message.{Message}
-use Rattle.irq_base.specs.declared.message.Source.TheVariants.{Resample, Tick as TickSource}
-use Rattle.irq_base.specs.declared.message.Targets.{Targets}
-use Rattle.irq_base.specs.declared.shape.Part.{Part}
-use Rattle.irq_base.specs.declared.shape.Part.TheVariants as parts
-use Rattle.irq_base.specs.declared.shape.Shape.{Shape}
-use Rattle.irq_base.specs.declared.status.Status.{Status}
-use Rattle.ioapic_82093aa.specs.Pins.{entry_at, pin_acked, resend_of}
-use Rattle.irqfd_set.specs.Rows.{has_resampler}
-use Rattle.resampler.specs.Resample.{resampled, resample_events}
-use Rattle.ack_notifiers.specs.Rows.{watched, watch_events}
-use Rattle.tick_reinject.specs.declared.state.TickState.{TickState}
-use Rattle.tick_reinject.specs.Ticks.{ack_injects, tick_acked, tick_injected, is_ignored}
-use Rattle.board_model.specs.Registry.{RegistryPart}
-use Rattle.board_model.specs.Routing.{Routing}
-use Rattle.board_model.specs.Chips.{ioapic_of}
-use Rattle.board_model.specs.Board.{Board, part_of, with_part, ValueOf, is_same}
-use Rattle.board_model.specs.Statuses.{Sent, TargetAnswer}
-use Rattle.board_model.specs.Plan.{About, injected, resent, ipi, the_reply, events_of, Plan, done, look, put, tell, answer, choose, change, ◌>>=◌, ◌>>◌}
-use Rattle.board_model.specs.Run.{Wishes, next_wish, later_wishes, Outcome, run, then_run}
+use Rattle.board_step.proofs.Basics.{◌≡◌, ℕ, ◌+◌, ◌-◌, Bool, true, false, ◌&&◌, ◌||◌, nat_eq, if◌then◌else◌, List, [], ◌∷◌, ◌++◌, refl, sym, ap, subst, ◌∙◌, arith, Some, None, Option}
+use Rattle.board_step.proofs.Types.parts
+use Rattle.board_step.proofs.Types.{Event, Acked, Rang, Injected, Pin, TickSource, Part, Shape, Status, TickState}
+use Rattle.board_step.proofs.Chips.{ack_injects, tick_acked, tick_injected, is_ignored}
+use Rattle.board_step.proofs.Plans.{Routing, Board, with_part, ValueOf, is_same, TargetAnswer, About, injected, Plan, done, put, change, ◌>>=◌, ◌>>◌, Wishes, Outcome, run, then_run}
+use Rattle.board_step.proofs.Calls.{inject, inject_tick, inject_next, acknowledge_tick, tell_concerned, end_level, end_tick, acknowledge, acknowledge_each}
 use Rattle.board_model.proofs.Lens.{part_of-with_other}
 use Rattle.board_model.proofs.Sequence.{run-bind}
-use Rattle.board_raise.specs.Send.{send}
-use Rattle.board_raise.specs.Signal.{is_accepted, accept_pin, let_go, inject}
-use Rattle.board_ack.specs.Ticks.{inject_tick, inject_next, acknowledge_tick}
-use Rattle.board_ack.specs.Acknowledge.{say_each, signal_each, resample, notify, resample_and_notify, tell_concerned, resend, clear_and_resend, end_level, end_tick, acknowledge, acknowledge_each}
 use Rattle.board_laws.specs.Ticks.{is_ack_of, acks_in}
 use Rattle.board_laws.proofs.ConservingOnce.{injects_before, inject_injects}
 use Rattle.board_step.proofs.Walk.{Walk, Holds, of_relation, ended}
@@ -90,12 +66,10 @@ acks_append gsi (x ∷ xs) ys = ap (λ n. is_ack_of gsi x + n) (acks_append gsi 
     sum a b c = omega arith
 
 or_left : (a c : Bool) → a ≡ true → (a || c) ≡ true
-or_left true c h = refl
-or_left false c h = cc
+or_left a c h1 = grind arith
 
 pub or_right : (a c : Bool) → c ≡ true → (a || c) ≡ true
-or_right true c h = refl
-or_right false c h = h
+or_right a c h1 = grind arith
 
 module _ (tick : ℕ) (may : ℕ → Bool) where
   -- what may come where no tick is due may come where one is
@@ -103,16 +77,11 @@ module _ (tick : ℕ) (may : ℕ → Bool) where
   singly_due due [] h = tt
   singly_due due (Acked pin None ∷ xs) h = h
   singly_due due (Acked pin (Some gsi) ∷ xs) h = h
-  singly_due due (Resampled counter ∷ xs) h = (refl, λ quiet. singly_due due xs (h.1 quiet))
-  singly_due due (Watched counter ∷ xs) h = (refl, λ quiet. singly_due due xs (h.1 quiet))
-  singly_due due (Rang counter ∷ xs) h = (refl, λ quiet. singly_due due xs (h.1 quiet))
   singly_due due (Injected gsi status ∷ xs) h = (wider (may gsi) (due && nat_eq gsi tick) h.0, h.1)
     where
       wider : (a b : Bool) → (a || false) ≡ true → (a || b) ≡ true
-      wider true b h = refl
-      wider false b h = cc
-  singly_due due (Resent pin status ∷ xs) h = (refl, λ quiet. singly_due due xs (h.1 quiet))
-  singly_due due (Ipi status ∷ xs) h = (refl, λ quiet. singly_due due xs (h.1 quiet))
+      wider a b h1 = grind arith
+  singly_due due (_ ∷ xs) h = (refl, λ quiet. singly_due due xs (h.1 quiet))
 
   singly_append : (due : Bool) (xs ys : List Event) → Singly tick may due xs → Singly tick may false ys → Singly tick may due (xs ++ ys)
   singly_append due [] ys h later = singly_due due ys later
@@ -124,13 +93,7 @@ module _ (tick : ℕ) (may : ℕ → Bool) where
   quiet_singly due (x ∷ xs) h = (one x h.0, λ _. quiet_singly (due_after tick due x) xs h.1)
     where
       one : (x : Event) → is_quiet may x ≡ true → admits tick may due x ≡ true
-      one (Acked pin gsi) h = refl
-      one (Rang counter) h = refl
-      one (Resampled counter) h = refl
-      one (Watched counter) h = refl
-      one (Injected gsi status) h = or_left (may gsi) (due && nat_eq gsi tick) h
-      one (Resent pin status) h = refl
-      one (Ipi status) h = refl
+      one x h1 = grind arith
 
   -- events of which none injects come before
   silent_singly : (due : Bool) (xs ys : List Event) → AreQuiet (λ _. false) xs → Singly tick may due ys → Singly tick may due (xs ++ ys)
@@ -138,10 +101,7 @@ module _ (tick : ℕ) (may : ℕ → Bool) where
   silent_singly due (Acked pin gsi ∷ xs) ys h later = let never : false ≡ true = h.0 in cc
   silent_singly due (Rang counter ∷ xs) ys h later = let never : false ≡ true = h.0 in cc
   silent_singly due (Injected gsi status ∷ xs) ys h later = let never : false ≡ true = h.0 in cc
-  silent_singly due (Resampled counter ∷ xs) ys h later = (refl, λ _. silent_singly due xs ys h.1 later)
-  silent_singly due (Watched counter ∷ xs) ys h later = (refl, λ _. silent_singly due xs ys h.1 later)
-  silent_singly due (Resent pin status ∷ xs) ys h later = (refl, λ _. silent_singly due xs ys h.1 later)
-  silent_singly due (Ipi status ∷ xs) ys h later = (refl, λ _. silent_singly due xs ys h.1 later)
+  silent_singly due (_ ∷ xs) ys h later = (refl, λ _. silent_singly due xs ys h.1 later)
 
 module _ (tick : ℕ) (rings : Bool) where
   allowed_append : (xs ys : List Event) → Allowed rings xs → Allowed rings ys → Allowed rings (xs ++ ys)
@@ -151,13 +111,7 @@ module _ (tick : ℕ) (rings : Bool) where
   -- ---- quiet plans
 
   quiet_event : (may : ℕ → Bool) (event : Event) → is_quiet may event ≡ true → (allows rings event ≡ true) × (is_ack_of tick event ≡ 0)
-  quiet_event may (Acked pin gsi) h = cc
-  quiet_event may (Rang counter) h = cc
-  quiet_event may (Resampled counter) h = (refl, refl)
-  quiet_event may (Watched counter) h = (refl, refl)
-  quiet_event may (Injected gsi status) h = (refl, refl)
-  quiet_event may (Resent pin status) h = (refl, refl)
-  quiet_event may (Ipi status) h = (refl, refl)
+  quiet_event may event h1 = grind arith
 
   quiet_events : (may : ℕ → Bool) (events : List Event) → AreQuiet may events → (acks_in tick events ≡ 0) × Allowed rings events
   quiet_events may [] h = (refl, tt)

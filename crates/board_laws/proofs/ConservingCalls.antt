@@ -1,61 +1,19 @@
 -- What each call takes off the pending ticks, and which injections its events may tell.
-use Rattle.std.proofs.Common.{◌≡◌, ℕ, ◌+◌, ◌-◌, Bool, true, false, true≢false, ◌||◌, ◌⊎◌, inl, inr, sym, arith, nat_eq, nat_lt, if◌then◌else◌, List, slice_index, is_some, refl, ap, ◌∙◌, Some, None}
-use Rattle.std.specs.declared.option.Option.{Option}
-use Rattle.irq_base.specs.Refusals.{first_of}
-use Rattle.irq_base.specs.declared.call.Call.{Call}
-use Rattle.irq_base.specs.declared.call.Call.TheVariants as calls
-use Rattle.irq_base.specs.declared.call.Caller.{Caller}
-use Rattle.irq_base.specs.declared.call.Space.{Space}
-use Rattle.irq_base.specs.declared.call.Space.TheVariants as spaces
-use Rattle.irq_base.specs.declared.event.Pin.{Pin}
-use Rattle.irq_base.specs.declared.message.Source.TheVariants.{Line, Resample}
-use Rattle.irq_base.specs.declared.refusal.Refusal.{Refusal}
-use Rattle.irq_base.specs.declared.reply.Reply.{Reply}
-use Rattle.irq_base.specs.declared.reply.Reply.TheVariants.{Done, Value, Exit, Vector, Extint, Refused, Held}
-use Rattle.irq_base.specs.declared.shape.Part.{Part}
-use Rattle.irq_base.specs.declared.shape.Part.TheVariants as parts
-use Rattle.irq_base.specs.declared.shape.Shape.{Shape}
-use Rattle.pic_8259a.specs.Pair.{is_port, write_to as pair_write_to, read_from as pair_read_from, has_output, Cycle, cycle}
-use Rattle.ioapic_82093aa.specs.Pins.{write_to, resend_of}
-use Rattle.lapic.specs.declared.outcome.Effect.{Effect as LapicEffect}
-use Rattle.lapic.specs.declared.outcome.Effect.TheVariants as effects
-use Rattle.lapic.specs.Registers.{LocalApic}
-use Rattle.lapic.specs.Offsets.{store_to, store_effect}
-use Rattle.lapic.specs.Priority.{without_service}
-use Rattle.irq_bits.specs.Members.{greatest_vector}
-use Rattle.msi_decode.specs.Messages.{message_in}
-use Rattle.tick_reinject.specs.declared.state.TickState.{TickState}
-use Rattle.irqfd_set.specs.declared.irqfds.Irqfd.{Irqfd}
-use Rattle.irqfd_set.specs.Rows as irqfds
-use Rattle.ioevent_set.specs.Rows.{rung_by}
-use Rattle.board_model.specs.declared.trigger.TriggerWord.{TriggerWord}
-use Rattle.board_model.specs.Board.{ValueOf, part_of, with_part, is_same}
-use Rattle.board_model.specs.Registry.{RegistryPart}
-use Rattle.board_model.specs.Routing.{Routing}
-use Rattle.board_model.specs.Chips.{PicPart, pair_of, with_pair, ioapic_of}
-use Rattle.board_model.specs.Plan.{injected, ipi, the_reply, Plan, done, put, reply, ◌>>=◌, ◌>>◌}
-use Rattle.board_model.specs.Run.{run}
-use Rattle.board_model.proofs.Lens.{part_of-with_other}
-use Rattle.board_raise.specs.Send.{send}
-use Rattle.board_raise.specs.Signal.{raise, inject}
-use Rattle.board_ack.specs.Acknowledge.{acknowledge_each}
-use Rattle.board_calls.specs.Refusals.{range_reasons, write_reasons, assign_reasons, attach_reasons, detach_reasons, watch_reasons, unwatch_reasons, is_ioapic_address, is_lapic_address}
-use Rattle.board_calls.specs.Registrations.{unless_refused, line_set, message_sent, source_of, trigger_written, write, take, inject_count, assign, was_last_resampler, release, deassigned, deassign, reroute, attach, detach, watch, unwatch}
-use Rattle.board_calls.specs.Ticks.{tick_or_hold}
-use Rattle.board_calls.specs.Processors.{pins_with, end_vector, ended_reply, end_of_interrupt, pic_pin, cycle_pins, cycle_made, inta, give, hears_pair, give_of_pair, take_nmi, next_interrupt}
-use Rattle.board_calls.specs.Accesses.{pair_written, pair_write, pair_gave, pair_read, resend_written, ioapic_written, ioapic_store, ioapic_load, store_effects, lapic_stored, lapic_store, lapic_load, ring_counter, rung, ring, port_out, port_in, store, load}
-use Rattle.board_calls.specs.Calls.{number_of, io_row, plan_in_range, plan_of}
+use Rattle.board_step.proofs.Basics.{◌≡◌, ℕ, ◌+◌, ◌-◌, Bool, true, false, true≢false, ◌||◌, ◌⊎◌, inl, inr, sym, arith, if◌then◌else◌, refl, Some, None, Option}
+use Rattle.board_step.proofs.Types.calls
+use Rattle.board_step.proofs.Types.spaces
+use Rattle.board_step.proofs.Types.{first_of, Call, Caller, Space, Reply, Done, Exit, Held, Shape, TickState, TriggerWord}
+use Rattle.board_step.proofs.Chips.{is_port}
+use Rattle.board_step.proofs.Plans.{Routing, injected, ipi, the_reply, Plan, reply, ◌>>◌, resent, run}
+use Rattle.board_step.proofs.Calls.{send, range_reasons, is_ioapic_address, is_lapic_address, line_set, message_sent, source_of, write, take, inject_count, assign, deassign, reroute, attach, detach, watch, unwatch, tick_or_hold, pair_write, ioapic_store, lapic_store, ring_counter, rung, ring, port_out, store, number_of, io_row, plan_in_range, plan_of, resend}
 use Rattle.board_laws.specs.Ticks.{acks_in}
-use Rattle.board_laws.proofs.ConservingQuiet.{shows_quietly, still, still_open, still_signals, still_shows, inject_quiet}
+use Rattle.board_laws.proofs.ConservingQuiet.{still, still_open, still_signals, still_shows}
 use Rattle.board_laws.proofs.ConservingAcks.{Conserving, conserving, quiet_conserving, tick_conserving, each_conserving}
-use Rattle.irq_base.specs.declared.shape.Part.TheVariants as parts
-use Rattle.board_model.specs.Plan.{resent}
-use Rattle.board_ack.specs.Acknowledge.{resend}
-use Rattle.board_step.proofs.Walk.{Holds, after, ended}
+use Rattle.board_step.proofs.Walk.{Holds, after}
 use Rattle.board_step.proofs.WalkSignals.{inject_only}
 use Rattle.board_step.proofs.WalkAcks.{resend_holds}
-use Rattle.board_step.proofs.WalkOpen.{open_raise, open_accesses, open_rings, open_replied}
-use Rattle.board_step.proofs.WalkCalls.{is_signal, Accesses, Rings, Replied, line_holds, message_holds, write_holds, take_holds, assign_holds, deassign_holds, reroute_holds, attach_holds, detach_holds, watch_holds, unwatch_holds, ring_holds, ioapic_store_holds, load_holds, pair_write_holds, port_in_holds, lapic_store_holds, next_holds, inta_holds, eoi_holds, unless_holds}
+use Rattle.board_step.proofs.WalkOpen.{open_raise, open_replied}
+use Rattle.board_step.proofs.WalkCalls.{is_signal, Accesses, Replied, line_holds, message_holds, write_holds, inject_count_holds, take_holds, assign_holds, deassign_holds, reroute_holds, attach_holds, detach_holds, watch_holds, unwatch_holds, ring_holds, ioapic_store_holds, load_holds, pair_write_holds, port_in_holds, lapic_store_holds, next_holds, inta_holds, eoi_holds, unless_holds}
 
 -- ---- quiet calls
 
@@ -67,8 +25,7 @@ module _ (may : ℕ → Bool) (routing : Routing) (shape : Shape) where
   replied = open_replied (still may) (still_open may) routing shape replies (λ gsi b ws fit. (refl, tt)) (λ pic. still_shows may (the_reply pic) refl)
 
   count_quiet : (gsi : ℕ) (resample : Option ℕ) → may gsi ≡ true → (injects : Bool) → Holds (still may) (inject_count routing shape gsi resample injects)
-  count_quiet gsi resample h false = λ b ws fit. (refl, tt)
-  count_quiet gsi resample h true = inject_only (still may) shape.cpus (still_signals may shape.cpus) (routing.targets gsi) (source_of (is_some resample)) (open_raise (still may) (still_open may) (routing.targets gsi) (source_of (is_some resample))) (λ pic. injected gsi pic) (λ pic. still_shows may (injected gsi pic) h)
+  count_quiet gsi resample h = inject_count_holds (still may) routing shape (still_signals may) gsi resample (open_raise (still may) (still_open may) _ _) (λ pic. still_shows may (injected gsi pic) h)
 
   -- a counter that is rung, and the answer
   pub rung_quiet : (counter : ℕ) → ((g : ℕ) → may g ≡ true) → Holds (still may) (ring_counter routing shape counter (routing.trigger counter) >> reply Done)
@@ -76,7 +33,7 @@ module _ (may : ℕ → Bool) (routing : Routing) (shape : Shape) where
     where
       by_trigger : (trigger : Option TriggerWord) → Holds (still may) (ring_counter routing shape counter trigger)
       by_trigger None = λ b ws fit. (refl, tt)
-      by_trigger (Some trigger) = inject_only (still may) shape.cpus (still_signals may shape.cpus) (routing.targets trigger.gsi) (source_of trigger.resample) (open_raise (still may) (still_open may) (routing.targets trigger.gsi) (source_of trigger.resample)) (λ pic. injected trigger.gsi pic) (λ pic. still_shows may (injected trigger.gsi pic) (h trigger.gsi))
+      by_trigger (Some trigger) = inject_only (still may) shape.cpus (still_signals may) (routing.targets trigger.gsi) (source_of trigger.resample) (open_raise (still may) (still_open may) (routing.targets trigger.gsi) (source_of trigger.resample)) (λ pic. injected trigger.gsi pic) (λ pic. still_shows may (injected trigger.gsi pic) (h trigger.gsi))
 
 -- ---- calls that conserve ticks
 
@@ -107,8 +64,8 @@ module _ (routing : Routing) (shape : Shape) (rings : Bool) (may : ℕ → Bool)
   accesses = record {
     acks = λ list b ws fit. each_conserving routing shape rings may list b ws;
     replies = answers;
-    resends = λ pin message. quiet (resend shape.cpus pin message) (resend_holds (still may) shape.cpus (still_signals may shape.cpus) pin (still_shows may (resent pin) refl) message);
-    ipis = λ message from. quiet (send shape.cpus message from ipi) ((still_signals may shape.cpus).sends message from ipi (still_shows may ipi refl));
+    resends = λ pin message. quiet (resend shape.cpus pin message) (resend_holds (still may) shape.cpus (still_signals may) pin (still_shows may (resent pin) refl) message);
+    ipis = λ message from. quiet (send shape.cpus message from ipi) ((still_shows may ipi refl).sends message from);
     pairs = λ pair b fit. refl;
     stores = λ offset value b fit. refl;
     registers = λ n offset value b fit. refl;
@@ -149,7 +106,7 @@ module _ (routing : Routing) (shape : Shape) (rings : Bool) (may : ℕ → Bool)
   in_range_keeps n (calls.Write counter count) lets = quiet (write routing shape (routing.trigger counter) counter count) (write_holds (still may) routing shape (replied may routing shape) counter count (routing.trigger counter) refl)
   in_range_keeps n (calls.Take counter) lets = quiet (take counter) (take_holds (still may) routing shape (replies may routing shape) counter (λ b fit. refl))
   in_range_keeps n (calls.Assign trigger gsi resample) lets = quiet (assign routing shape trigger gsi resample) (assign_holds (still may) routing shape (replies may routing shape) (λ v b fit. refl) trigger gsi resample (λ counts b fit. refl) (count_quiet may routing shape gsi resample lets))
-  in_range_keeps n (calls.Deassign trigger gsi) lets = quiet (deassign routing trigger gsi) (deassign_holds (still may) routing shape (replies may routing shape) (λ v b fit. refl) (still_signals may shape.cpus) trigger gsi)
+  in_range_keeps n (calls.Deassign trigger gsi) lets = quiet (deassign routing trigger gsi) (deassign_holds (still may) routing shape (replies may routing shape) (λ v b fit. refl) (still_signals may) trigger gsi)
   in_range_keeps n (calls.Reroute rows) lets = quiet (reroute rows) (reroute_holds (still may) routing shape (replies may routing shape) (λ v b fit. refl) (λ holds b fit. refl) (λ holds b fit. refl) rows)
   in_range_keeps n (calls.Attach space address len counter want) lets = quiet (attach (io_row space address len counter want)) (attach_holds (still may) routing shape (replies may routing shape) (λ v b fit. refl) (io_row space address len counter want))
   in_range_keeps n (calls.Detach space address len counter want) lets = quiet (detach (io_row space address len counter want)) (detach_holds (still may) routing shape (replies may routing shape) (λ v b fit. refl) (io_row space address len counter want))

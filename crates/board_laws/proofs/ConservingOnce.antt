@@ -1,34 +1,12 @@
 -- A signal that shows as an injection tells that alone, once.
-use Rattle.std.proofs.Common.{◌≡◌, ℕ, Bool, true, false, not, if◌then◌else◌, List, [], ◌∷◌, ◌++◌, refl, ap, ◌∙◌, Some, None}
-use Rattle.std.specs.declared.option.Option.{Option}
-use Rattle.std.specs.FinSet as set
-use Rattle.irq_bits.specs.Members.{Numbers}
-use Rattle.irq_base.specs.declared.event.Event.TheVariants.{Injected}
-use Rattle.irq_base.specs.declared.message.Message.{Message}
-use Rattle.irq_base.specs.declared.message.MsiWord.{MsiWord}
-use Rattle.irq_base.specs.declared.message.Source.{Source}
-use Rattle.irq_base.specs.declared.message.Source.TheVariants.{Line, Pulse, Resample, Tick as TickSource}
-use Rattle.irq_base.specs.declared.message.Targets.{Targets}
-use Rattle.irq_base.specs.declared.shape.Part.TheVariants.{Ioapic, Lapic}
-use Rattle.irq_base.specs.declared.status.Cause.{Cause}
-use Rattle.irq_base.specs.declared.status.Cause.TheVariants.{NoProcessor, BadVector, Mode as BadMode, Masked}
-use Rattle.irq_base.specs.declared.status.Status.{Status}
-use Rattle.lapic.specs.declared.outcome.Shorthand.{Shorthand}
-use Rattle.lapic.specs.Messages.{is_taken, accepted}
-use Rattle.ioapic_82093aa.specs.declared.ioapic.Raise.{Raise}
-use Rattle.ioapic_82093aa.specs.declared.ioapic.Raise.TheVariants as raises
-use Rattle.ioapic_82093aa.specs.Pins.{raise_of}
-use Rattle.msi_decode.specs.Messages.{message_in}
-use Rattle.board_model.specs.Chips.{ioapic_of}
-use Rattle.board_model.specs.Board.{Board, part_of, with_part}
-use Rattle.board_model.specs.Statuses.{Sent, nobody, TargetAnswer, status_of, status_sent, message_answer, no_effect, stood_already}
-use Rattle.board_model.specs.Plan.{Heading, injected, Plan, done, put, choose, ◌>>=◌, ◌>>◌}
-use Rattle.board_model.specs.Run.{Wishes, next_wish, later_wishes, Outcome, run}
-use Rattle.board_model.specs.Following.{reached}
+use Rattle.board_step.proofs.Basics.set
+use Rattle.board_step.proofs.Basics.{◌≡◌, ℕ, Bool, true, false, not, if◌then◌else◌, List, [], ◌∷◌, ◌++◌, refl, ap, ◌∙◌, Some, None, Option}
+use Rattle.board_step.proofs.Types.raises
+use Rattle.board_step.proofs.Types.{Numbers, Injected, Message, MsiWord, Source, Resample, Targets, Ioapic, Lapic, Cause, NoProcessor, BadVector, BadMode, Masked, Status, Shorthand, Raise}
+use Rattle.board_step.proofs.Chips.{is_taken, accepted, raise_of, message_in}
+use Rattle.board_step.proofs.Plans.{ioapic_of, Board, part_of, with_part, Sent, nobody, TargetAnswer, status_of, status_sent, message_answer, no_effect, stood_already, Heading, injected, Plan, done, put, choose, ◌>>=◌, ◌>>◌, Wishes, next_wish, later_wishes, Outcome, run, reached}
+use Rattle.board_step.proofs.Calls.{Processor, named_by, chosen_of, numbers_of, show, ignore, reached_by, see_each, parted, is_illegal, accept_each, deliver, refuse_vector, send_to, send, raise_pic, answer_shown, ioapic_raised, ioapic_answered, accept_pin, is_accepted, raise_other, raise, let_go_pic, let_go_ioapic, let_go, let_go_after, inject}
 use Rattle.board_model.proofs.Sequence.{run-bind}
-use Rattle.board_raise.specs.Named.{Processor, named_by, chosen_of, numbers_of}
-use Rattle.board_raise.specs.Send.{show, ignore, reached_by, see_each, parted, is_illegal, accept_each, deliver, refuse_vector, send_to, send}
-use Rattle.board_raise.specs.Signal.{raise_pic, answer_shown, ioapic_raised, ioapic_answered, accept_pin, is_accepted, raise_other, raise, let_go_pic, let_go_ioapic, let_go, let_go_after, inject}
 
 -- a plan tells no event
 abbrev pub Silent : {A : Type 0} → Plan A → Type 0
@@ -74,9 +52,7 @@ let_go_silent targets source = silent_both (λ _. let_go_ioapic targets.ioapic s
 
 let_go_after_silent : (targets : Targets) (source : Source) → Silent (let_go_after targets source)
 let_go_after_silent targets Resample = λ b ws. refl
-let_go_after_silent targets (Line n) = let_go_silent targets (Line n)
-let_go_after_silent targets Pulse = let_go_silent targets Pulse
-let_go_after_silent targets TickSource = let_go_silent targets TickSource
+let_go_after_silent targets other = let_go_silent targets other
 
 raise_pic_silent : (pin : Option ℕ) (source : Source) → Silent (raise_pic pin source)
 raise_pic_silent None source = λ b ws. refl

@@ -1,49 +1,13 @@
 -- What leaves the tick state, acknowledges no pin, rings no ioeventfd, and injects on certain GSIs alone: so are signals.
-use Rattle.std.proofs.Common.{◌≡◌, ℕ, Bool, true, false, not, if◌then◌else◌, List, [], ◌∷◌, refl, Some, None}
-use Rattle.std.specs.declared.option.Option.{Option}
-use Rattle.std.specs.FinSet as set
-use Rattle.irq_bits.specs.Members.{Numbers}
-use Rattle.irq_base.specs.declared.event.Event.{Event}
-use Rattle.irq_base.specs.declared.event.Event.TheVariants.{Acked, Rang, Injected}
-use Rattle.irq_base.specs.declared.message.Message.{Message}
-use Rattle.irq_base.specs.declared.message.MsiWord.{MsiWord}
-use Rattle.irq_base.specs.declared.message.Source.{Source}
-use Rattle.irq_base.specs.declared.message.Source.TheVariants.{Line, Pulse, Resample, Tick as TickSource}
-use Rattle.irq_base.specs.declared.message.Targets.{Targets}
-use Rattle.irq_base.specs.declared.shape.Part.TheVariants.{Tick, Lapic}
-use Rattle.irq_base.specs.declared.status.Cause.{Cause}
-use Rattle.irq_base.specs.declared.status.Cause.TheVariants.{NoProcessor, BadVector, Mode as BadMode, Masked}
-use Rattle.lapic.specs.declared.outcome.Shorthand.{Shorthand}
-use Rattle.lapic.specs.Messages.{is_taken, accepted}
-use Rattle.ioapic_82093aa.specs.declared.ioapic.Raise.{Raise}
-use Rattle.ioapic_82093aa.specs.declared.ioapic.Raise.TheVariants as raises
-use Rattle.ioapic_82093aa.specs.Pins.{raise_of}
-use Rattle.msi_decode.specs.Messages.{message_in}
-use Rattle.board_model.specs.Chips.{ioapic_of}
-use Rattle.board_model.specs.Board.{ValueOf, is_same}
-use Rattle.board_model.specs.Statuses.{Sent, nobody, TargetAnswer, status_of, message_answer, no_effect, stood_already}
-use Rattle.board_model.specs.Plan.{About, injected, resent, ipi, the_reply, Plan, done, look, put, tell, answer, choose, ◌>>=◌, ◌>>◌}
-use Rattle.board_model.specs.Following.{reached}
-use Rattle.board_raise.specs.Named.{Processor, named_by, numbers_of}
-use Rattle.board_raise.specs.Send.{show, ignore, reached_by, see_each, is_illegal, accept_each, deliver, refuse_vector, send_to, send}
-use Rattle.board_raise.specs.Signal.{raise_pic, answer_shown, ioapic_answered, accept_pin, is_accepted, raise_other, raise, let_go_pic, let_go_ioapic, let_go, lower, let_go_after, inject}
-use Rattle.std.proofs.Common.{◌++◌, map, ◌∙◌}
-use Rattle.irq_base.specs.Counts.{signalled_all}
-use Rattle.irq_base.specs.declared.event.Event.TheVariants.{Resampled, Watched}
-use Rattle.irq_base.specs.declared.event.Pin.{Pin}
-use Rattle.irq_base.specs.declared.shape.Part.TheVariants as parts
-use Rattle.resampler.specs.Resample.{resampled, resample_events}
-use Rattle.ack_notifiers.specs.Rows.{watched, watch_events}
-use Rattle.board_model.specs.Board.{with_part}
-use Rattle.board_model.specs.Plan.{events_of, change}
-use Rattle.board_model.specs.Routing.{Routing}
-use Rattle.board_model.specs.Run.{next_wish, later_wishes, run}
+use Rattle.board_step.proofs.Basics.{◌≡◌, ℕ, Bool, true, false, List, [], ◌∷◌, refl, ◌++◌, ◌∙◌, Option}
+use Rattle.board_step.proofs.Types.{Event, Acked, Rang, Injected, Source, Targets, Tick, Pin}
+use Rattle.board_step.proofs.Plans.{is_same, Sent, TargetAnswer, About, injected, resent, ipi, the_reply, events_of, Routing, next_wish, later_wishes, run}
+use Rattle.board_step.proofs.Calls.{show, inject, tell_concerned, end_level}
 use Rattle.board_model.proofs.Lens.{part_of-with_other}
-use Rattle.board_ack.specs.Acknowledge.{say_each, signal_each, tell_concerned, end_level}
-use Rattle.board_step.proofs.Walk.{Walk, Holds, of_relation, after, changed}
+use Rattle.board_step.proofs.Walk.{Walk, Holds, of_relation}
 use Rattle.board_step.proofs.WalkSignals.{Shows, Signals, inject_holds}
-use Rattle.board_step.proofs.WalkAcks.{Tells, tell_holds, end_level_holds}
-use Rattle.board_step.proofs.WalkOpen.{Open, open_signals, open_raise}
+use Rattle.board_step.proofs.WalkAcks.{Tells, tells_by, tell_holds, end_level_holds}
+use Rattle.board_step.proofs.WalkOpen.{Open, open_signals, open_shows, open_raise}
 
 -- ---- quiet plans
 
@@ -84,8 +48,8 @@ module _ (may : ℕ → Bool) where
   pub still_open : Open still
   still_open = record { counters = λ v b fit. refl; pic = λ v b fit. refl; ioapic = λ v b fit. refl; lapic = λ n v b fit. refl }
 
-  pub still_signals : (cpus : ℕ) → Signals still cpus
-  still_signals cpus = open_signals still still_open cpus
+  pub still_signals : Signals still
+  still_signals = open_signals still still_open
 
   sent_quiet : (about : About) (sent : Sent) → shows_quietly may about ≡ true → AreQuiet may (events_of about sent)
   sent_quiet (injected gsi pic) sent h = (h, tt)
@@ -99,43 +63,22 @@ module _ (may : ℕ → Bool) where
   shown_quiet ipi other h = λ b ws fit. (refl, (refl, tt))
   shown_quiet (the_reply pic) other h = λ b ws fit. (refl, tt)
 
-  pub still_shows : (about : About) → shows_quietly may about ≡ true → Shows still about
-  still_shows about there = record {
-    shown = λ other. shown_quiet about other there;
-    chosen = λ m g k h b ws fit.
-        let s = g (next_wish ws) in
-        let later = h s b (later_wishes ws) tt in
-        (later.0, quiet_append (events_of about s) (run (k s) b (later_wishes ws)).log.events (sent_quiet about s there) later.1);
-  }
+  pub still_shows : {cpus : ℕ} (about : About) → shows_quietly may about ≡ true → Shows still cpus about
+  still_shows about there = open_shows still still_open about (λ other. shown_quiet about other there) (λ m g k h b ws fit.
+      let s = g (next_wish ws) in
+      let later = h s b (later_wishes ws) tt in
+      (later.0, quiet_append (events_of about s) (run (k s) b (later_wishes ws)).log.events (sent_quiet about s there) later.1))
 
   pub inject_quiet : (cpus : ℕ) (targets : Targets) (source : Source) (about : Option TargetAnswer → About) → ((pic : Option TargetAnswer) → shows_quietly may (about pic) ≡ true) → Holds still (inject cpus targets source about)
-  inject_quiet cpus targets source about there = inject_holds still cpus (still_signals cpus) targets source (open_raise still still_open targets source) about (λ pic. still_shows (about pic) (there pic))
+  inject_quiet cpus targets source about there = inject_holds still cpus still_signals targets source (open_raise still still_open targets source) about (λ pic. still_shows (about pic) (there pic))
 
   -- ---- parts of an acknowledge
 
-  say_quiet : (events : List Event) → AreQuiet may events → Holds still (say_each events)
-  say_quiet [] h = λ b ws fit. (refl, tt)
-  say_quiet (x ∷ xs) h = λ b ws fit. let later = say_quiet xs h.1 b ws tt in (later.0, (h.0, later.1))
-
-  resamples_quiet : (counters : List ℕ) → AreQuiet may (map Resampled counters)
-  resamples_quiet [] = tt
-  resamples_quiet (x ∷ xs) = (refl, resamples_quiet xs)
-
-  watches_quiet : (counters : List ℕ) → AreQuiet may (map Watched counters)
-  watches_quiet [] = tt
-  watches_quiet (x ∷ xs) = (refl, watches_quiet xs)
-
-  signal_quiet : (counters : List ℕ) (events : List Event) → AreQuiet may events → Holds still (signal_each counters events)
-  signal_quiet counters events h = after still (change parts.Counters (λ counts. signalled_all counts counters)) (say_each events) (changed still parts.Counters (λ counts. signalled_all counts counters) (λ b fit. refl)) (say_quiet events h)
-
   tells : Tells still
-  tells = record {
-    resamples = λ registry gsi seen. signal_quiet (resampled registry.irqfds gsi) (resample_events registry.irqfds gsi) (resamples_quiet (resampled registry.irqfds gsi));
-    notifies = λ registry gsi seen. signal_quiet (watched registry.watches gsi) (watch_events registry.watches gsi) (watches_quiet (watched registry.watches gsi));
-  }
+  tells = tells_by still (λ counter b ws fit. (refl, (refl, tt))) (λ counter b ws fit. (refl, (refl, tt))) (λ registry gsi seen b fit. refl) (λ registry gsi seen b fit. refl)
 
   pub tell_quiet : (routing : Routing) (gsi : Option ℕ) → Holds still (tell_concerned routing gsi)
-  tell_quiet routing gsi = tell_holds still routing 0 (still_signals 0) tells gsi
+  tell_quiet routing gsi = tell_holds still routing 0 still_signals tells gsi
 
   pub level_quiet : (cpus : ℕ) (pin : Pin) → Holds still (end_level cpus pin)
-  level_quiet cpus pin = end_level_holds still cpus (still_signals cpus) (λ pin. still_shows (resent pin) refl) (λ pin b fit. refl) pin
+  level_quiet cpus pin = end_level_holds still cpus still_signals (λ pin. still_shows (resent pin) refl) (λ pin b fit. refl) pin

@@ -1,31 +1,13 @@
 -- Ticks are conserved, they are injected where the state is free, and other injections follow acknowledges.
-use Rattle.std.proofs.Common.{◌≡◌, ℕ, ◌+◌, ◌-◌, Bool, true, false, true≢false, not, ◌&&◌, ◌||◌, nat_eq, min, if◌then◌else◌, ◌⊎◌, inl, inr, List, [], ◌∷◌, ◌++◌, refl, sym, ap, subst, ◌∙◌, arith, Some, None}
+use Rattle.board_step.proofs.Basics.{◌≡◌, ℕ, ◌+◌, ◌-◌, Bool, true, false, true≢false, not, ◌&&◌, ◌||◌, nat_eq, min, if◌then◌else◌, ◌⊎◌, inl, inr, List, [], ◌∷◌, ◌++◌, refl, sym, ap, subst, ◌∙◌, arith, Some, None, Contains, list_any, Option, nat_tests, Contains-append_left, Contains-append_right}
+use Rattle.board_step.proofs.Types.calls
+use Rattle.board_step.proofs.Types.parts
+use Rattle.board_step.proofs.Types.{Call, Caller, Event, Acked, Rang, Injected, Entry, TickSource, Held, Signal, Part, Shape, Status, TickState}
+use Rattle.board_step.proofs.Chips.{in_mode, ticked, tick_injects, tick_injected}
+use Rattle.board_step.proofs.Plans.{Board, part_of, with_part, Routing, routing_of_registry, the_reply, Plan, change, Wishes, Outcome, run}
+use Rattle.board_step.proofs.Calls.{inject, tick_or_hold}
 use Rattle.std.specs.Prelude.{◌≢◌}
-use Rattle.std.specs.List.{Contains, list_any}
-use Rattle.std.specs.declared.option.Option.{Option}
-use Rattle.std.proofs.lemmas.Bool.Decides.{nat_tests}
-use Rattle.std.proofs.lemmas.List.Elements.{Contains-append_left, Contains-append_right}
-use Rattle.irq_base.specs.declared.call.Call.{Call}
-use Rattle.irq_base.specs.declared.call.Call.TheVariants as calls
-use Rattle.irq_base.specs.declared.call.Caller.{Caller}
-use Rattle.irq_base.specs.declared.event.Event.{Event}
-use Rattle.irq_base.specs.declared.event.Event.TheVariants.{Acked, Resampled, Watched, Rang, Injected, Resent, Ipi}
-use Rattle.irq_base.specs.declared.lists.Entry.{Entry}
-use Rattle.irq_base.specs.declared.message.Source.TheVariants.{Tick as TickSource}
-use Rattle.irq_base.specs.declared.reply.Reply.TheVariants.{Held, Signal}
-use Rattle.irq_base.specs.declared.shape.Part.{Part}
-use Rattle.irq_base.specs.declared.shape.Part.TheVariants as parts
-use Rattle.irq_base.specs.declared.shape.Shape.{Shape}
-use Rattle.irq_base.specs.declared.status.Status.{Status}
-use Rattle.tick_reinject.specs.declared.state.TickState.{TickState}
-use Rattle.tick_reinject.specs.Ticks.{in_mode, ticked, tick_injects, tick_injected}
-use Rattle.board_model.specs.Board.{Board, part_of, with_part}
-use Rattle.board_model.specs.Routing.{Routing, routing_of_registry}
-use Rattle.board_model.specs.Plan.{the_reply, Plan, change}
-use Rattle.board_model.specs.Run.{Wishes, Outcome, run}
 use Rattle.board_model.proofs.Sequence.{run-bind}
-use Rattle.board_raise.specs.Signal.{inject}
-use Rattle.board_calls.specs.Ticks.{tick_or_hold}
 use Rattle.board_step.specs.Step.{plan_on, outcome_of, with_counts, would_publish, Step}
 use Rattle.board_step.specs.History.{opening, next_board, Leads, board_after}
 use Rattle.board_laws.specs.Points.{board_at, board_left, OfLegalHistories}
@@ -106,8 +88,7 @@ balances b caller ws on call stays = by_call call stays
     by_call call stays = others call refl stays
 
 counted_tick : (t : Bool) (b : Board) → (with_counts t b).tick ≡ b.tick
-counted_tick true b = refl
-counted_tick false b = refl
+counted_tick t b = grind arith
 
 -- what a step does to ticks under reinjection
 record StepBalances (b : Board) (e : Entry) (c : Board) : Type 0 where
@@ -147,9 +128,7 @@ conserved_from b es c start leads stays =
 
 -- an entry that sets the mode of ticks leaves that mode at its start
 mode_set : (b : Board) (e : Entry) (c : Board) (reinject : Bool) → Step b e c → e.call ≡ calls.TickMode reinject → c.tick ≡ in_mode reinject
-mode_set b e c reinject s is =
-    let o = outcome_of b e s.wishes in
-    ap (λ (d : Board). d.tick) (sym s.leads) ∙ counted_tick (would_publish b e.call) o.board ∙ ap (λ (call : Call). (run (plan_on b e.caller call) b s.wishes).board.tick) is
+mode_set b e c reinject h1 h2 = grind arith
 
 -- reinjection starts on the board after such entries
 started : (shape : Shape) (early : List Entry) (b : Board) → Leads (opening shape) early b → StartsReinjection early → b.tick ≡ in_mode true
@@ -170,18 +149,10 @@ ticks_are_conserved shape history (last, leads) early es stretch =
 
 -- a write of the tick state, and a count of calls, change no other part
 counted_part : (t : Bool) (b : Board) (v : TickState) (q : Part) → q ≢ parts.Tick → part_of (with_counts t (with_part b parts.Tick v)) q ≡ part_of b q
-counted_part true b v parts.Registry other = refl
-counted_part true b v parts.Counters other = refl
 counted_part true b v parts.Tick other = absurd (other refl)
-counted_part true b v parts.Pic other = refl
-counted_part true b v parts.Ioapic other = refl
-counted_part true b v (parts.Lapic n) other = refl
-counted_part false b v parts.Registry other = refl
-counted_part false b v parts.Counters other = refl
 counted_part false b v parts.Tick other = absurd (other refl)
-counted_part false b v parts.Pic other = refl
-counted_part false b v parts.Ioapic other = refl
-counted_part false b v (parts.Lapic n) other = refl
+counted_part true b v _ other = refl
+counted_part false b v _ other = refl
 
 -- a tick that is not injected answers how many are pending, and writes no more
 held_back : (b : Board) (e : Entry) (c : Board) (s : Step b e c) → e.call ≡ calls.Tick → b.tick.reinjects ≡ true → tick_injects b.tick ≡ false → HoldsBack b e c
@@ -255,8 +226,7 @@ falls_free b e c s before = record { injected = λ status falls replied. by_stat
         of_mode false off = absurd (true≢false (sym (before off) ∙ busy))
 
     by_state : e.call ≡ calls.Tick → (status : Status) → e.reply ≡ Signal status → (t : Bool) → b.tick.free ≡ t → t ≡ true
-    by_state falls status replied true is = refl
-    by_state falls status replied false busy = let never : Signal status ≡ Held (b.tick.pending + 1) = sym replied ∙ (held falls busy).reply in cc
+    by_state h1 status h2 t h3 = grind arith
 
 pub ticks_inject_free : OfLegalHistories TicksInjectFree
 ticks_inject_free = at_points (λ shape p. FallsFree (board_at shape p) p.entry (board_left shape p))
@@ -289,12 +259,7 @@ RingsNothing events = (counter : ℕ) → Contains events (Rang counter) → ⊥
 
 head_rings : (x : Event) (xs : List Event) → RingsNothing (x ∷ xs) → is_rang x ≡ false
 head_rings (Rang counter) xs never = absurd (never counter (Contains-append_left (Rang counter ∷ []) xs (Rang counter) (0, omega arith, refl)))
-head_rings (Acked pin gsi) xs never = refl
-head_rings (Resampled counter) xs never = refl
-head_rings (Watched counter) xs never = refl
-head_rings (Injected gsi status) xs never = refl
-head_rings (Resent pin status) xs never = refl
-head_rings (Ipi status) xs never = refl
+head_rings _ xs never = refl
 
 -- why the tick is injected: it was due before, and stays so, or an acknowledge made it due
 abbrev Comes : ℕ → Bool → List Event → Type 0
@@ -313,11 +278,7 @@ module _ (tick : ℕ) where
       by_event (Acked pin None) is = absurd (true≢false (sym is))
       by_event (Acked pin (Some g)) is = inr (record { early = []; pin = pin; mid = before; told = ap (λ n. Acked pin (Some n) ∷ before) (same g is); next = none })
       by_event (Injected g status) is = absurd (true≢false (sym is))
-      by_event (Rang counter) is = inl (is, none)
-      by_event (Resampled counter) is = inl (is, none)
-      by_event (Watched counter) is = inl (is, none)
-      by_event (Resent pin status) is = inl (is, none)
-      by_event (Ipi status) is = inl (is, none)
+      by_event _ is = inl (is, none)
 
   comes : (due : Bool) (before after : List Event) (gsi : ℕ) (status : Status) → RingsNothing (before ++ Injected gsi status ∷ after) → Singly tick (λ _. false) due (before ++ Injected gsi status ∷ after) → (gsi ≡ tick) × Comes tick due before
   comes due [] after gsi status never h = let both = split due h.0 in (both.1, inl (both.0, refl))

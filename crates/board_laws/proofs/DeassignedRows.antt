@@ -1,38 +1,15 @@
 -- The rows of irqfds along a history: each trigger has one row at most, and a trigger whose row went has none until one is made.
-use Rattle.std.proofs.Common.{◌≡◌, ℕ, Bool, true, false, true≢false, cond, not, ◌||◌, nat_eq, nat_lt, ◌⊎◌, inl, inr, List, [], ◌∷◌, ◌++◌, filter, slice_index, is_some, refl, sym, ap, subst, ◌∙◌, arith, Some, None}
-use Rattle.std.specs.Prelude.{find}
-use Rattle.std.specs.List.{list_any}
-use Rattle.std.specs.Cmp.{first_so, unsigned_Decides}
-use Rattle.std.specs.declared.option.Option.{Option}
-use Rattle.std.proofs.lemmas.Bool.Decides.{eqb_tells}
-use Rattle.std.proofs.lemmas.List.Folds.{list_any-append}
-use Rattle.irq_base.specs.Refusals.{first_of}
-use Rattle.irq_base.specs.declared.call.Call.{Call}
-use Rattle.irq_base.specs.declared.call.Call.TheVariants as calls
-use Rattle.irq_base.specs.declared.call.Caller.{Caller}
-use Rattle.irq_base.specs.declared.lists.Entry.{Entry}
-use Rattle.irq_base.specs.declared.message.Source.TheVariants.{Resample}
-use Rattle.irq_base.specs.declared.refusal.Refusal.{Refusal}
-use Rattle.irq_base.specs.declared.refusal.Refusal.TheVariants.{Busy, RoleClash}
-use Rattle.irq_base.specs.declared.reply.Reply.{Reply}
-use Rattle.irq_base.specs.declared.reply.Reply.TheVariants.{Done, Removed}
-use Rattle.irq_base.specs.declared.shape.Shape.{Shape}
-use Rattle.event_counter.specs.Counters.{taken}
-use Rattle.irqfd_set.specs.declared.irqfds.Irqfd.{Irqfd}
-use Rattle.irqfd_set.specs.Rows.{has_trigger, is_named, named_row, with_row, without_row}
+use Rattle.board_step.proofs.Basics.{◌≡◌, ℕ, Bool, true, false, true≢false, cond, not, ◌||◌, nat_eq, nat_lt, ◌⊎◌, inl, inr, List, [], ◌∷◌, ◌++◌, filter, refl, sym, ap, subst, ◌∙◌, arith, Some, None, find, list_any, first_so, unsigned_Decides, Option, eqb_tells, list_any-append}
+use Rattle.board_step.proofs.Types.calls
+use Rattle.board_step.proofs.Types.{first_of, Call, Caller, Entry, Resample, Refusal, Busy, RoleClash, Reply, Done, Removed, Shape, Irqfd}
+use Rattle.board_step.proofs.Chips.{taken, has_trigger, is_named, named_row, with_row, without_row}
+use Rattle.board_step.proofs.Plans.{Board, RegistryPart, Routing, routing_of_registry, injected, Plan, done, reply, ◌>>◌, Wishes, Outcome, run}
+use Rattle.board_step.proofs.Calls.{inject, range_reasons, is_trigger, is_signalled, resample_clashes, assign_reasons, attach_reasons, detach_reasons, watch_reasons, unwatch_reasons, unless_refused, source_of, inject_count, assigned, release, deassigned, number_of, io_row, plan_in_range}
+use Rattle.std.proofs.Common.{slice_index, is_some}
 use Rattle.route_table.proofs.Sound.{no_reason}
-use Rattle.board_model.specs.Board.{Board}
-use Rattle.board_model.specs.Registry.{RegistryPart}
-use Rattle.board_model.specs.Routing.{Routing, routing_of_registry}
-use Rattle.board_model.specs.Plan.{injected, Plan, done, reply, ◌>>◌}
-use Rattle.board_model.specs.Run.{Wishes, Outcome, run}
 use Rattle.board_model.proofs.Sequence.{run-bind}
-use Rattle.board_raise.specs.Signal.{inject}
 use Rattle.board_raise.proofs.Manner.{Manner, Keeps, keeps_bind, registry_stays}
 use Rattle.board_raise.proofs.SignalSteady.{let_go_keeps, inject_keeps}
-use Rattle.board_calls.specs.Refusals.{range_reasons, is_trigger, is_signalled, resample_clashes, assign_reasons, attach_reasons, detach_reasons, watch_reasons, unwatch_reasons}
-use Rattle.board_calls.specs.Registrations.{unless_refused, source_of, inject_count, assigned, was_last_resampler, release, deassigned}
-use Rattle.board_calls.specs.Calls.{number_of, io_row, plan_in_range}
 use Rattle.board_step.specs.Step.{plan_on, outcome_of, with_counts, would_publish, Step}
 use Rattle.board_step.specs.History.{opening}
 use Rattle.board_laws.specs.Deassigned.{EndsTrigger, MakesTrigger}
@@ -167,11 +144,7 @@ module _ (b : Board) (caller : Caller) (ws : Wishes) where
   release_keeps gsi false = tt
 
   pub gone : (trigger gsi : ℕ) (row : Irqfd) → (run (deassigned routing b.registry trigger gsi (Some row)) b ws).board.registry.irqfds ≡ without_row b.registry.irqfds trigger gsi
-  gone trigger gsi row =
-      let w = reading false in
-      let last = was_last_resampler row (without_row b.registry.irqfds trigger gsi) in
-      ap (λ (r : RegistryPart). r.irqfds) (registry_stays w (release routing gsi last >> reply (Removed 1)) (record b { registry = record b.registry { irqfds = without_row b.registry.irqfds trigger gsi } }) ws refl
-      (keeps_bind w (λ _. reply (Removed 1)) (release routing gsi last) (release_keeps gsi last) (λ _. ends w (Removed 1) refl refl)))
+  gone trigger gsi row = grind arith
 
   ended : (trigger gsi : ℕ) (row : Option Irqfd) → RowsAfter b (calls.Deassign trigger gsi) (run (deassigned routing b.registry trigger gsi row) b ws)
   ended trigger gsi None = inl refl
@@ -200,8 +173,7 @@ module _ (b : Board) (caller : Caller) (ws : Wishes) where
 -- ---- along a history
 
 counted_rows : (t : Bool) (b : Board) → (with_counts t b).registry.irqfds ≡ b.registry.irqfds
-counted_rows true b = refl
-counted_rows false b = refl
+counted_rows t b = grind arith
 
 -- the rows after a step are those of its outcome
 rows_left : (b : Board) (e : Entry) (c : Board) (s : Step b e c) → (outcome_of b e s.wishes).board.registry.irqfds ≡ c.registry.irqfds

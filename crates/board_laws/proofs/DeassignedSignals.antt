@@ -1,38 +1,13 @@
 -- From the end of an irqfd to the next of its trigger, a write of its counter or a guest write that rings it signals nothing.
-use Rattle.std.proofs.Common.{◌≡◌, ◌≢◌, ℕ, zero, suc, ◌-◌, ◌<◌, Bool, true, false, true≢false, ◌||◌, ◌⊎◌, inl, inr, if◌then◌else◌, List, [], ◌∷◌, ◌++◌, length, refl, sym, ap, subst, ◌∙◌, arith, option_map, Some, None}
-use Rattle.std.specs.Prelude.{find, slice_get, slice_set, slice_index_or}
-use Rattle.std.specs.List.{Contains, list_any}
-use Rattle.std.specs.declared.option.Option.{Option}
-use Rattle.std.proofs.lemmas.List.Elements.{Contains-append_left, Contains-append_right}
-use Rattle.irq_base.specs.Refusals.{first_of}
-use Rattle.irq_base.specs.declared.call.Call.{Call}
-use Rattle.irq_base.specs.declared.call.Call.TheVariants as calls
-use Rattle.irq_base.specs.declared.call.Caller.{Caller}
-use Rattle.irq_base.specs.declared.call.Space.TheVariants as spaces
-use Rattle.irq_base.specs.declared.event.Event.{Event}
-use Rattle.irq_base.specs.declared.event.Event.TheVariants.{Rang}
-use Rattle.irq_base.specs.declared.lists.Entry.{Entry}
-use Rattle.irq_base.specs.declared.refusal.Refusal.{Refusal}
-use Rattle.irq_base.specs.declared.reply.Reply.TheVariants.{Done, Refused}
-use Rattle.irq_base.specs.declared.shape.Part.{Part}
-use Rattle.irq_base.specs.declared.shape.Shape.{Shape}
-use Rattle.irq_base.specs.declared.shape.Part.TheVariants as parts
-use Rattle.pic_8259a.specs.Pair.{is_port}
-use Rattle.event_counter.specs.Counters.{written}
-use Rattle.tick_reinject.specs.Ticks.{ticked, tick_injects}
-use Rattle.irqfd_set.specs.declared.irqfds.Irqfd.{Irqfd}
-use Rattle.irqfd_set.specs.Rows.{has_trigger}
-use Rattle.ioevent_set.specs.Rows.{rung_by}
-use Rattle.board_model.specs.declared.trigger.TriggerWord.{TriggerWord}
-use Rattle.board_model.specs.Board.{Board, part_of, with_part}
-use Rattle.board_model.specs.Routing.{Routing, routing_of_registry, trigger_of}
-use Rattle.board_model.specs.Plan.{Plan, put, tell, reply, ◌>>◌}
-use Rattle.board_model.specs.Run.{Wishes, Outcome, run}
-use Rattle.board_calls.specs.Refusals.{range_reasons, write_reasons, is_trigger, is_ioapic_address, is_lapic_address}
-use Rattle.board_calls.specs.Registrations.{unless_refused, write}
-use Rattle.board_calls.specs.Accesses.{pair_write, ioapic_store, lapic_store, port_out, store, ring_counter, rung, ring}
-use Rattle.board_calls.specs.Calls.{number_of}
-use Rattle.board_step.specs.Step.{refusal_of, does_publish, publishes_unless, would_publish, plan_on, outcome_of, with_counts, Step}
+use Rattle.board_step.proofs.Basics.{◌≡◌, ◌≢◌, ℕ, zero, suc, ◌-◌, ◌<◌, Bool, true, false, true≢false, ◌||◌, ◌⊎◌, inl, inr, if◌then◌else◌, List, [], ◌∷◌, ◌++◌, refl, sym, ap, subst, ◌∙◌, arith, option_map, Some, None, find, slice_get, slice_set, Contains, list_any, Option, Contains-append_left, Contains-append_right}
+use Rattle.board_step.proofs.Types.calls
+use Rattle.board_step.proofs.Types.spaces
+use Rattle.board_step.proofs.Types.parts
+use Rattle.board_step.proofs.Types.{first_of, Call, Caller, Event, Rang, Entry, Refusal, Done, Refused, Part, Shape, Irqfd, TriggerWord}
+use Rattle.board_step.proofs.Chips.{is_port, written, ticked, tick_injects, has_trigger, rung_by}
+use Rattle.board_step.proofs.Plans.{Board, part_of, with_part, Routing, routing_of_registry, trigger_of, Plan, put, tell, reply, ◌>>◌, Wishes, Outcome, run}
+use Rattle.board_step.proofs.Calls.{range_reasons, write_reasons, is_trigger, is_ioapic_address, is_lapic_address, unless_refused, write, pair_write, ioapic_store, lapic_store, port_out, store, ring_counter, rung, ring, number_of}
+use Rattle.board_step.specs.Step.{does_publish, publishes_unless, would_publish, plan_on, outcome_of, with_counts, Step}
 use Rattle.board_step.specs.History.{opening, Leads, board_after}
 use Rattle.board_laws.specs.Points.{Point, board_at, board_left, IsLegal, OfLegalHistories}
 use Rattle.board_laws.specs.Rings.{rung_on, IsRefusedAlone}
@@ -50,11 +25,7 @@ no_member x h = let below : h.0 < 0 = h.1 in absurd (omega (arith, below))
 
 -- a member is the first, or one of the others
 pub first_or_later : {X : Type 0} (y x : X) (xs : List X) → Contains (y ∷ xs) x → (x ≡ y) ⊎ Contains xs x
-first_or_later {X} y x xs (k, below, is) = by_place k below is
-  where
-    by_place : (k : ℕ) → k < length (y ∷ xs) → slice_index_or (y ∷ xs) k x ≡ x → (x ≡ y) ⊎ Contains xs x
-    by_place zero below is = inl (sym is)
-    by_place (suc k) below is = inr (k, omega (arith, below), is)
+first_or_later y x xs h1 = grind arith
 
 -- a list that is set at one place is the same at another
 other_place : (xs : List ℕ) (c k v : ℕ) → k ≢ c → slice_get (slice_set xs c v) k ≡ slice_get xs k
@@ -109,18 +80,7 @@ changes_counted : (counter : ℕ) (t : Bool) (b o : Board) → ChangesCountAlone
 changes_counted counter t b o h = record { parts = λ q ne. same t q ∙ h.parts q ne; counts = λ k ne. ap (λ counts. slice_get counts k) (same t parts.Counters) ∙ h.counts k ne }
   where
     same : (t : Bool) (q : Part) → part_of (with_counts t o) q ≡ part_of o q
-    same true parts.Registry = refl
-    same true parts.Counters = refl
-    same true parts.Tick = refl
-    same true parts.Pic = refl
-    same true parts.Ioapic = refl
-    same true (parts.Lapic n) = refl
-    same false parts.Registry = refl
-    same false parts.Counters = refl
-    same false parts.Tick = refl
-    same false parts.Pic = refl
-    same false parts.Ioapic = refl
-    same false (parts.Lapic n) = refl
+    same t q = grind arith
 
 module _ (counter : ℕ) (b : Board) (ws : Wishes) where
   abbrev routing : Routing
@@ -131,32 +91,20 @@ module _ (counter : ℕ) (b : Board) (ws : Wishes) where
   unless_plainly None plan h = h
   unless_plainly (Some refusal) plan h = record { told = refl; answers = inr (refusal, refl); changes = changes_none counter b }
 
-  module _ (off : is_trigger b.registry counter ≡ false) where
-    -- the counter triggers nothing
-    no_trigger : routing.trigger counter ≡ None
-    no_trigger = ap (option_map trigger_of) (none_found (has_trigger counter) b.registry.irqfds off)
+  -- ---- a guest write that rings it
 
-    -- a write adds to its count, or is refused
-    write_plainly : (caller : Caller) (n : ℕ) → Plainly counter b (run (plan_on b caller (calls.Write counter n)) b ws)
-    write_plainly caller n = unless_plainly (first_of (range_reasons b.shape (calls.Write counter n))) (write routing b.shape (routing.trigger counter) counter n)
-        (subst (λ (trigger : Option TriggerWord). Plainly counter b (run (write routing b.shape trigger counter n) b ws)) (sym no_trigger)
-        (unless_plainly (first_of (write_reasons b.counters counter n)) (put parts.Counters (written b.counters counter n) (reply Done))
-        (record { told = refl; answers = inl refl; changes = changes_count counter _ b })))
-
-    -- ---- a guest write that rings it
-
-    -- a plan is refused, or rings the counter
-    abbrev RefusesOrRings : Plan (Unit {0}) → Type 0
-    RefusesOrRings plan = Refuses b (run plan b ws) ⊎ Rings counter b (run plan b ws)
+  -- what holds of the outcome of the ring
+  module _ (IsRung : Outcome (Unit {0}) → Type 0) (is_rung : IsRung (run (rung routing b.shape (Some counter)) b ws)) where
+    -- a plan is refused, or it rings the counter
+    abbrev pub RefusesOrRings : Plan (Unit {0}) → Type 0
+    RefusesOrRings plan = Refuses b (run plan b ws) ⊎ IsRung (run plan b ws)
 
     unless_rings : (refusal : Option Refusal) (plan : Plan (Unit {0})) → RefusesOrRings plan → RefusesOrRings (unless_refused refusal plan)
     unless_rings None plan h = h
     unless_rings (Some refusal) plan h = inl (record { refusal = refusal; told = refl; answers = refl; same = refl })
 
     rung_rings : (k : Option ℕ) → k ≡ Some counter → RefusesOrRings (rung routing b.shape k)
-    rung_rings k is = subst (λ (k : Option ℕ). RefusesOrRings (rung routing b.shape k)) (sym is)
-        (subst (λ (trigger : Option TriggerWord). RefusesOrRings (tell (Rang counter) (ring_counter routing b.shape counter trigger >> reply Done))) (sym no_trigger)
-        (inr (record { told = refl; answers = refl; changes = changes_count counter _ b })))
+    rung_rings k is = subst (λ (k : Option ℕ). RefusesOrRings (rung routing b.shape k)) (sym is) (inr is_rung)
 
     -- a write to a port
     port_rings : (t : Bool) (port len value : ℕ) → (if t then None else rung_by b.registry.ioevents spaces.Port port len value) ≡ Some counter
@@ -171,10 +119,26 @@ module _ (counter : ℕ) (b : Board) (ws : Wishes) where
     store_rings false true n address len value is = cc
     store_rings false false n address len value is = rung_rings (rung_by b.registry.ioevents spaces.Memory address len value) is
 
-    call_rings : (caller : Caller) (call : Call) → rung_on b call ≡ Some counter → RefusesOrRings (plan_on b caller call)
+    pub call_rings : (caller : Caller) (call : Call) → rung_on b call ≡ Some counter → RefusesOrRings (plan_on b caller call)
     call_rings caller (calls.PortOut port len value) is = unless_rings (first_of (range_reasons b.shape (calls.PortOut port len value))) (port_out routing b.shape port len value) (port_rings (is_port port) port len value is)
     call_rings caller (calls.Store address len value) is = unless_rings (first_of (range_reasons b.shape (calls.Store address len value))) (store routing b.shape (number_of caller) address len value) (store_rings (is_ioapic_address address) (is_lapic_address address) (number_of caller) address len value is)
     call_rings caller _ is = cc
+
+  module _ (off : is_trigger b.registry counter ≡ false) where
+    -- the counter triggers nothing
+    no_trigger : routing.trigger counter ≡ None
+    no_trigger = ap (option_map trigger_of) (none_found (has_trigger counter) b.registry.irqfds off)
+
+    -- a write adds to its count, or is refused
+    write_plainly : (caller : Caller) (n : ℕ) → Plainly counter b (run (plan_on b caller (calls.Write counter n)) b ws)
+    write_plainly caller n = unless_plainly (first_of (range_reasons b.shape (calls.Write counter n))) (write routing b.shape (routing.trigger counter) counter n)
+        (subst (λ (trigger : Option TriggerWord). Plainly counter b (run (write routing b.shape trigger counter n) b ws)) (sym no_trigger)
+        (unless_plainly (first_of (write_reasons b.counters counter n)) (put parts.Counters (written b.counters counter n) (reply Done))
+        (record { told = refl; answers = inl refl; changes = changes_count counter _ b })))
+
+    own_rings : Rings counter b (run (rung routing b.shape (Some counter)) b ws)
+    own_rings = subst (λ (trigger : Option TriggerWord). Rings counter b (run (tell (Rang counter) (ring_counter routing b.shape counter trigger >> reply Done)) b ws)) (sym no_trigger)
+        (record { told = refl; answers = refl; changes = changes_count counter _ b })
 
   -- ---- what tells that it rang
 
@@ -270,14 +234,11 @@ signals_nothing counter b e c s h = (
 
 -- a call that publishes nothing is no publication, refused or not
 no_publication : (b : Board) (call : Call) → does_publish b call ≡ false → (refusal : Option Refusal) → publishes_unless refusal b call ≡ false
-no_publication b call quiet None = quiet
-no_publication b call quiet (Some refusal) = refl
+no_publication b call h1 refusal = grind arith
 
 -- a guest write that rings is none
 rings_no_words : (counter : ℕ) (b : Board) (call : Call) → rung_on b call ≡ Some counter → would_publish b call ≡ false
-rings_no_words counter b (calls.PortOut port len value) is = no_publication b (calls.PortOut port len value) refl (refusal_of b (calls.PortOut port len value))
-rings_no_words counter b (calls.Store address len value) is = no_publication b (calls.Store address len value) refl (refusal_of b (calls.Store address len value))
-rings_no_words counter b _ is = cc
+rings_no_words counter b call h1 = grind arith
 
 -- a step whose outcome is a refusal alone, or a ring alone, is so
 module _ (counter : ℕ) (b : Board) (e : Entry) (c : Board) (s : Step b e c) where
@@ -300,8 +261,8 @@ module _ (counter : ℕ) (b : Board) (e : Entry) (c : Board) (s : Step b e c) wh
 signals_no_more : (counter : ℕ) (b : Board) (e : Entry) (c : Board) → Step b e c → is_trigger b.registry counter ≡ false → SignalsNoMore counter b e c
 signals_no_more counter b e c s off = record {
   written = λ n is. signals_nothing counter b e c s (subst (λ (call : Call). Plainly counter b (run (plan_on b e.caller call) b s.wishes)) (sym is) (write_plainly counter b s.wishes off e.caller n));
-  rung = λ rings. elim (call_rings counter b s.wishes off e.caller e.call rings) [
-    | inl refused ↦ inl (refused_alone counter b e c s rings refused)
+  rung = λ is. elim (call_rings counter b s.wishes (Rings counter b) (own_rings counter b s.wishes off) e.caller e.call is) [
+    | inl refused ↦ inl (refused_alone counter b e c s is refused)
     | inr rang ↦ inr (rings_alone counter b e c s rang)
   ];
   told = λ rang. call_tells counter b s.wishes e.caller e.call (subst (λ (events : List Event). Contains events (Rang counter)) (sym s.told) rang);

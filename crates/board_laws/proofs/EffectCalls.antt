@@ -1,73 +1,31 @@
 -- A call that is answered with a status says what its status tells, and one without effect leaves the requests.
-use Rattle.std.proofs.Common.{◌≡◌, ℕ, Bool, true, false, nat_eq, if◌then◌else◌, ◌⊎◌, inl, inr, List, [], ◌∷◌, option_map, refl, sym, ap, ◌∙◌, subst, true≢false, Some, None}
-use Rattle.std.specs.declared.option.Option.{Option}
-use Rattle.irq_base.specs.Refusals.{first_of}
-use Rattle.irq_base.specs.declared.call.Call.{Call}
-use Rattle.irq_base.specs.declared.call.Call.TheVariants as calls
-use Rattle.irq_base.specs.declared.call.Caller.{Caller}
-use Rattle.irq_base.specs.declared.message.MsiWord.{MsiWord}
-use Rattle.irq_base.specs.declared.message.Source.{Source}
-use Rattle.irq_base.specs.declared.message.Source.TheVariants.{Line, Pulse, Resample, Tick}
-use Rattle.irq_base.specs.declared.message.Targets.{Targets}
-use Rattle.irq_base.specs.declared.refusal.Refusal.{Refusal}
-use Rattle.irq_base.specs.declared.reply.Reply.{Reply}
-use Rattle.irq_base.specs.declared.reply.Reply.TheVariants.{Signal, Done}
-use Rattle.irq_base.specs.declared.shape.Part.TheVariants as parts
-use Rattle.irq_base.specs.declared.shape.Part.TheVariants.{Lapic}
-use Rattle.irq_base.specs.declared.status.Cause.TheVariants.{Masked}
-use Rattle.irq_base.specs.declared.status.Status.{Status}
+use Rattle.board_step.proofs.Basics.{◌≡◌, ℕ, Bool, true, false, nat_eq, if◌then◌else◌, ◌⊎◌, inl, inr, List, [], ◌∷◌, option_map, refl, sym, ap, ◌∙◌, subst, true≢false, Some, None, Option}
+use Rattle.board_step.proofs.Types.calls
+use Rattle.board_step.proofs.Types.parts
+use Rattle.board_step.proofs.Types.raises
+use Rattle.board_step.proofs.Types.{first_of, Call, Caller, MsiWord, Source, Line, Resample, Targets, Refusal, Reply, Signal, Done, Lapic, Masked, Status, Raise, TickState, TriggerWord}
+use Rattle.board_step.proofs.Chips.{raise_of, pin_outcome, message_in, ticked, tick_injects, tick_injected}
+use Rattle.board_step.proofs.Plans.{Board, part_of, PicPart, IoapicPart, pair_of, ioapic_of, Routing, routing_of_registry, nobody, TargetAnswer, stood_already, no_effect, status_of, About, the_reply, done, change, reply, ◌>>◌, Wishes, Outcome, run}
+use Rattle.board_step.proofs.Calls.{send, pic_raised, pic_answer, ioapic_raised, is_accepted, accept_pin, ioapic_answered, raise_other, raise, let_go, let_go_after, lowered_status, lower, inject, HasProcessors, range_reasons, unless_refused, source_of, trigger_written, write, tick_or_hold, number_of, plan_in_range}
+use Rattle.irq_base.specs.declared.message.Source.TheVariants.{Tick}
 use Rattle.irq_base.specs.declared.status.Status.TheVariants.{Lowered}
-use Rattle.ioapic_82093aa.specs.declared.ioapic.Raise.{Raise}
-use Rattle.ioapic_82093aa.specs.declared.ioapic.Raise.TheVariants as raises
-use Rattle.ioapic_82093aa.specs.Pins.{raise_of}
-use Rattle.pic_8259a.specs.Pair.{pin_outcome}
-use Rattle.msi_decode.specs.Messages.{message_in}
-use Rattle.tick_reinject.specs.declared.state.TickState.{TickState}
-use Rattle.tick_reinject.specs.Ticks.{ticked, tick_injects, tick_injected}
-use Rattle.board_model.specs.declared.trigger.TriggerWord.{TriggerWord}
-use Rattle.board_model.specs.Board.{Board, part_of}
-use Rattle.board_model.specs.Chips.{PicPart, IoapicPart, pair_of, ioapic_of}
-use Rattle.board_model.specs.Routing.{Routing, routing_of_registry}
-use Rattle.board_model.specs.Statuses.{nobody, TargetAnswer, stood_already, no_effect, status_of}
-use Rattle.board_model.specs.Plan.{About, the_reply, done, change, reply, ◌>>◌}
-use Rattle.board_model.specs.Run.{Wishes, Outcome, run}
-use Rattle.board_raise.specs.Send.{send}
-use Rattle.board_raise.specs.Signal.{pic_raised, pic_answer, ioapic_raised, is_accepted, accept_pin, ioapic_answered, raise_other, raise, let_go_pic, let_go_ioapic, let_go, let_go_after, lowered_status, lower, inject}
-use Rattle.board_raise.specs.Laws.{HasProcessors}
-use Rattle.board_calls.specs.Refusals.{range_reasons}
-use Rattle.board_calls.specs.Registrations.{unless_refused, source_of, trigger_written, write}
-use Rattle.board_calls.specs.Ticks.{tick_or_hold}
-use Rattle.board_calls.specs.Calls.{number_of, plan_in_range}
 use Rattle.board_step.specs.Step.{plan_on, outcome_of, with_counts, would_publish}
 use Rattle.board_laws.specs.Effect.{message_target, signal_targets, message_raised, pic_answer_on, raise_answer_on, IsSaidOf, is_without_effect, ChangesNoRequest, CoalescedAndIgnoredChangeNoRequest}
 use Rattle.board_laws.proofs.EffectStood.{raise_stood, raised_stood}
-use Rattle.board_step.proofs.Walk.{Holds}
+use Rattle.board_step.proofs.Walk.{Holds, ended, after, changed}
+use Rattle.board_step.proofs.WalkSignals.{Signals, accept_pin_holds, let_go_holds}
 use Rattle.board_laws.proofs.EffectMute.{mute, count_mute, call_mute, some_status}
-use Rattle.board_laws.proofs.EffectSends.{Spares, spares_bind, Says, says_before, says_after, shown_says, send_says}
+use Rattle.board_laws.proofs.EffectSends.{spared, Says, says_before, says_after, shown_says, send_says}
 
 -- ---- plans that leave the requests
 
 module _ (b : Board) where
-  accept_pin_spares : (pin : ℕ) (t : Bool) → Spares b (accept_pin pin t)
-  accept_pin_spares pin true = λ v. (tt, tt)
-  accept_pin_spares pin false = tt
+  signals : Signals (spared b)
+  signals = record { accepts = λ pin c fit. tt; pic_leaves = λ pin source c fit. tt; ioapic_leaves = λ pin source c fit. tt }
 
-  let_go_pic_spares : (pin : Option ℕ) (source : Source) → Spares b (let_go_pic pin source)
-  let_go_pic_spares None source = tt
-  let_go_pic_spares (Some pin) source = λ v. (tt, tt)
-
-  let_go_ioapic_spares : (pin : Option ℕ) (source : Source) → Spares b (let_go_ioapic pin source)
-  let_go_ioapic_spares None source = tt
-  let_go_ioapic_spares (Some pin) source = λ v. (tt, tt)
-
-  let_go_spares : (targets : Targets) (source : Source) → Spares b (let_go targets source)
-  let_go_spares targets source = spares_bind b (λ _. let_go_ioapic targets.ioapic source) (let_go_pic targets.pic source) (let_go_pic_spares targets.pic source) (λ _. let_go_ioapic_spares targets.ioapic source)
-
-  let_go_after_spares : (targets : Targets) (source : Source) → Spares b (let_go_after targets source)
-  let_go_after_spares targets Resample = tt
-  let_go_after_spares targets (Line n) = let_go_spares targets (Line n)
-  let_go_after_spares targets Pulse = let_go_spares targets Pulse
-  let_go_after_spares targets Tick = let_go_spares targets Tick
+  let_go_after_spares : (targets : Targets) (source : Source) → Holds (spared b) (let_go_after targets source)
+  let_go_after_spares targets Resample = λ c ws fit. (refl, λ same. same)
+  let_go_after_spares targets other = let_go_holds (spared b) 0 signals targets other
 
 -- ---- signals whose status is the reply
 
@@ -93,14 +51,14 @@ module _ (b : Board) (stand : HasProcessors b b.shape.cpus) where
     answered_says pin msi w (raises.Send message) is ws =
         says_before b (at (Some pin) msi) (λ answer. accept_pin pin (is_accepted message answer) >> done (Some answer)) (send b.shape.cpus message None (shown (pic_answer_on b pic))) (record c { ioapic = w }) ws
         (send_says b stand (at (Some pin) msi) u v w message (ap message_raised is) (ap (λ r. Some (raise_answer_on b b.shape.cpus r)) is) ws)
-        (λ answer. spares_bind b (λ _. done (Some answer)) (accept_pin pin (is_accepted message answer)) (accept_pin_spares b pin (is_accepted message answer)) (λ _. tt))
+        (λ answer. after (spared b) (accept_pin pin (is_accepted message answer)) (done (Some answer)) (accept_pin_holds (spared b) 0 (signals b) pin (is_accepted message answer)) (ended (spared b) (Some answer)))
 
     other_says : (ioapic : Option ℕ) (msi : Option MsiWord) (ws : Wishes) → Says b (at ioapic msi) (run (raise_other b.shape.cpus ioapic msi source (shown (pic_answer_on b pic))) c ws)
     other_says (Some pin) msi ws = answered_says pin msi (ioapic_raised b.ioapic pin source) (raise_of (ioapic_of b.ioapic) pin) refl ws
     other_says None (Some word) ws =
         says_before b (at None (Some word)) (λ answer. done (Some answer)) (send b.shape.cpus (message_in word.address word.payload) None (shown (pic_answer_on b pic))) c ws
         (send_says b stand (at None (Some word)) u v b.ioapic (message_in word.address word.payload) refl refl ws)
-        (λ answer. tt)
+        (λ _ c vs fit. (refl, λ same. same))
     other_says None None ws = shown_says b stand (at None None) u v b.ioapic None None ws refl
 
   -- a signal, on a board whose tick may be another
@@ -108,11 +66,11 @@ module _ (b : Board) (stand : HasProcessors b b.shape.cpus) where
     raised_says : (pic ioapic : Option ℕ) (msi : Option MsiWord) → Says b (record { pic = pic; ioapic = ioapic; msi = msi }) (run (raise b.shape.cpus (record { pic = pic; ioapic = ioapic; msi = msi }) source shown) (record b { tick = u }) ws)
     raised_says None ioapic msi =
         says_before b (record { pic = None; ioapic = ioapic; msi = msi }) (λ other. done (status_of None other nobody)) (raise_other b.shape.cpus ioapic msi source (shown None)) (record b { tick = u }) ws
-        (other_says u b.pic source None ioapic msi ws) (λ _. tt)
+        (other_says u b.pic source None ioapic msi ws) (λ _ c vs fit. (refl, λ same. same))
     raised_says (Some pin) ioapic msi =
         let answer = Some (pic_answer (pin_outcome (pair_of b.pic) pin true)) in
         says_before b (record { pic = Some pin; ioapic = ioapic; msi = msi }) (λ other. done (status_of answer other nobody)) (raise_other b.shape.cpus ioapic msi source (shown answer)) (record b { tick = u; pic = pic_raised b.pic pin source }) ws
-        (other_says u (pic_raised b.pic pin source) source (Some pin) ioapic msi ws) (λ _. tt)
+        (other_says u (pic_raised b.pic pin source) source (Some pin) ioapic msi ws) (λ _ c vs fit. (refl, λ same. same))
 
     raise_says : (targets : Targets) → Says b targets (run (raise b.shape.cpus targets source shown) (record b { tick = u }) ws)
     raise_says targets = raised_says targets.pic targets.ioapic targets.msi
@@ -120,7 +78,7 @@ module _ (b : Board) (stand : HasProcessors b b.shape.cpus) where
     inject_says : (targets : Targets) → Says b targets (run (inject b.shape.cpus targets source shown) (record b { tick = u }) ws)
     inject_says targets =
         says_before b targets (λ status. let_go_after targets source >> done status) (raise b.shape.cpus targets source shown) (record b { tick = u }) ws (raise_says targets)
-        (λ status. spares_bind b (λ _. done status) (let_go_after targets source) (let_go_after_spares b targets source) (λ _. tt))
+        (λ status. after (spared b) (let_go_after targets source) (done status) (let_go_after_spares b targets source) (ended (spared b) status))
 
   -- a signal that is lowered
   lowered_says : (pic ioapic : Option ℕ) (msi : Option MsiWord) → is_without_effect (lowered_status pic ioapic msi) ≡ true → IsSaidOf b (record { pic = pic; ioapic = ioapic; msi = msi }) (lowered_status pic ioapic msi)
@@ -131,7 +89,7 @@ module _ (b : Board) (stand : HasProcessors b b.shape.cpus) where
 
   lower_says : (targets : Targets) (source : Source) (ws : Wishes) → Says b targets (run (lower targets source) b ws)
   lower_says targets source ws =
-      says_after b targets (λ _. reply (Signal (lowered_status targets.pic targets.ioapic targets.msi))) (let_go targets source) b ws (let_go_spares b targets source) (λ n. refl)
+      says_after b targets (λ _. reply (Signal (lowered_status targets.pic targets.ioapic targets.msi))) (let_go targets source) b ws (let_go_holds (spared b) 0 (signals b) targets source) (λ n. refl)
       (λ _ d vs same. record {
         status = lowered_status targets.pic targets.ioapic targets.msi;
         answers = refl;
@@ -157,7 +115,7 @@ module _ (b : Board) (stand : HasProcessors b b.shape.cpus) where
   line_judged gsi line true n ws = record {
     targets = routing.targets gsi;
     signalled = refl;
-    says = says_before b (routing.targets gsi) (λ _. done tt) (raise b.shape.cpus (routing.targets gsi) (Line line) shown) b ws (raise_says b.tick (Line line) ws (routing.targets gsi)) (λ _. tt);
+    says = says_before b (routing.targets gsi) (λ _. done tt) (raise b.shape.cpus (routing.targets gsi) (Line line) shown) b ws (raise_says b.tick (Line line) ws (routing.targets gsi)) (λ _ c vs fit. (refl, λ same. same));
   }
   line_judged gsi line false n ws = record { targets = routing.targets gsi; signalled = refl; says = lower_says (routing.targets gsi) (Line line) ws }
 
@@ -166,7 +124,7 @@ module _ (b : Board) (stand : HasProcessors b b.shape.cpus) where
     targets = message_target address payload;
     signalled = refl;
     says = says_before b (message_target address payload) (λ _. done tt) (send b.shape.cpus (message_in address payload) None (shown None)) b ws
-        (send_says b stand (message_target address payload) b.tick b.pic b.ioapic (message_in address payload) refl refl ws) (λ _. tt);
+        (send_says b stand (message_target address payload) b.tick b.pic b.ioapic (message_in address payload) refl refl ws) (λ _ c vs fit. (refl, λ same. same));
   }
 
   write_judged : (counter count : ℕ) (trigger : Option TriggerWord) → routing.trigger counter ≡ trigger → (ws : Wishes) → Judged (calls.Write counter count) (run (write routing b.shape trigger counter count) b ws)
@@ -177,7 +135,7 @@ module _ (b : Board) (stand : HasProcessors b b.shape.cpus) where
       targets = routing.targets trigger.gsi;
       signalled = ap (option_map (λ (t : TriggerWord). routing.targets t.gsi)) is;
       says = says_before b (routing.targets trigger.gsi) (λ _. done tt) (inject b.shape.cpus (routing.targets trigger.gsi) (source_of trigger.resample) shown) b ws
-          (inject_says b.tick (source_of trigger.resample) ws (routing.targets trigger.gsi)) (λ _. tt);
+          (inject_says b.tick (source_of trigger.resample) ws (routing.targets trigger.gsi)) (λ _ c vs fit. (refl, λ same. same));
     })
   ]
 
@@ -186,7 +144,7 @@ module _ (b : Board) (stand : HasProcessors b b.shape.cpus) where
     targets = routing.targets b.shape.tick;
     signalled = refl;
     says = says_before b (routing.targets b.shape.tick) (λ status. change parts.Tick (λ tick. tick_injected tick status)) (inject b.shape.cpus (routing.targets b.shape.tick) Tick shown) (record b { tick = ticked b.tick }) ws
-        (inject_says (ticked b.tick) Tick ws (routing.targets b.shape.tick)) (λ status tick. (tt, tt));
+        (inject_says (ticked b.tick) Tick ws (routing.targets b.shape.tick)) (λ status. changed (spared b) parts.Tick (λ tick. tick_injected tick status) (λ c fit. tt));
   })
   tick_judged false ws = inr refl
 
@@ -198,22 +156,7 @@ module _ (b : Board) (stand : HasProcessors b b.shape.cpus) where
   range_judged n (calls.Msi address payload) ws = inl (message_judged address payload n ws)
   range_judged n (calls.Write counter count) ws = write_judged counter count (routing.trigger counter) refl ws
   range_judged n calls.Tick ws = tick_judged (tick_injects b.tick) ws
-  range_judged n (calls.Take counter) ws = mute_judged n (calls.Take counter) ws (call_mute routing b.shape n (calls.Take counter) refl)
-  range_judged n (calls.Assign trigger gsi resample) ws = mute_judged n (calls.Assign trigger gsi resample) ws (call_mute routing b.shape n (calls.Assign trigger gsi resample) refl)
-  range_judged n (calls.Deassign trigger gsi) ws = mute_judged n (calls.Deassign trigger gsi) ws (call_mute routing b.shape n (calls.Deassign trigger gsi) refl)
-  range_judged n (calls.Reroute rows) ws = mute_judged n (calls.Reroute rows) ws (call_mute routing b.shape n (calls.Reroute rows) refl)
-  range_judged n (calls.Attach space address len counter want) ws = mute_judged n (calls.Attach space address len counter want) ws (call_mute routing b.shape n (calls.Attach space address len counter want) refl)
-  range_judged n (calls.Detach space address len counter want) ws = mute_judged n (calls.Detach space address len counter want) ws (call_mute routing b.shape n (calls.Detach space address len counter want) refl)
-  range_judged n (calls.Watch counter gsi) ws = mute_judged n (calls.Watch counter gsi) ws (call_mute routing b.shape n (calls.Watch counter gsi) refl)
-  range_judged n (calls.Unwatch counter gsi) ws = mute_judged n (calls.Unwatch counter gsi) ws (call_mute routing b.shape n (calls.Unwatch counter gsi) refl)
-  range_judged n (calls.TickMode reinject) ws = mute_judged n (calls.TickMode reinject) ws (call_mute routing b.shape n (calls.TickMode reinject) refl)
-  range_judged n (calls.PortOut port len value) ws = mute_judged n (calls.PortOut port len value) ws (call_mute routing b.shape n (calls.PortOut port len value) refl)
-  range_judged n (calls.PortIn port len) ws = mute_judged n (calls.PortIn port len) ws (call_mute routing b.shape n (calls.PortIn port len) refl)
-  range_judged n (calls.Store address len value) ws = mute_judged n (calls.Store address len value) ws (call_mute routing b.shape n (calls.Store address len value) refl)
-  range_judged n (calls.Load address len) ws = mute_judged n (calls.Load address len) ws (call_mute routing b.shape n (calls.Load address len) refl)
-  range_judged n calls.Ack ws = mute_judged n calls.Ack ws (call_mute routing b.shape n calls.Ack refl)
-  range_judged n calls.Inta ws = mute_judged n calls.Inta ws (call_mute routing b.shape n calls.Inta refl)
-  range_judged n calls.Eoi ws = mute_judged n calls.Eoi ws (call_mute routing b.shape n calls.Eoi refl)
+  range_judged n call ws = mute_judged n call ws (call_mute routing b.shape n call refl)
 
   call_judged : (caller : Caller) (call : Call) (ws : Wishes) → Judged call (run (plan_on b caller call) b ws)
   call_judged caller call ws = of_refusal (first_of (range_reasons b.shape call))

@@ -1,47 +1,24 @@
 -- A sending whose status is without effect: what the status says, and that it changes no request.
-use Rattle.std.proofs.Common.{◌≡◌, ℕ, zero, suc, ◌<◌, ◌%◌, Bool, true, false, not, ◌&&◌, ◌||◌, nat_eq, nat_lt, if◌then◌else◌, ◌⊎◌, inl, inr, List, [], ◌∷◌, ◌++◌, length, refl, sym, ap, ◌∙◌, subst, append-nil, true≢false, is_some, arith, Some, None}
-use Rattle.std.specs.Prelude.{slice_get, slice_set, unwrap_or}
-use Rattle.std.specs.declared.option.Option.{Option}
-use Rattle.std.specs.FinSet as set
-use Rattle.std.specs.FinSet.{contains-empty, same_set, nat_cmp-IsAntisymmetric}
-use Rattle.std.specs.Ordering.{nat_cmp}
-use Rattle.std.specs.Cmp.{nat_cmp_total}
-use Rattle.irq_bits.specs.Members.{Numbers}
-use Rattle.irq_bits.specs.SetLemmas.{contains-insert_number}
-use Rattle.irq_base.specs.declared.message.Message.{Message}
+use Rattle.board_step.proofs.Basics.set
+use Rattle.board_step.proofs.Basics.{◌≡◌, ℕ, zero, suc, ◌<◌, Bool, true, false, not, ◌&&◌, ◌||◌, nat_eq, nat_lt, if◌then◌else◌, ◌⊎◌, inl, inr, List, [], ◌∷◌, ◌++◌, length, refl, sym, ap, ◌∙◌, subst, append-nil, true≢false, arith, Some, None, slice_get, slice_set, unwrap_or, Option, contains-empty, same_set, nat_cmp-IsAntisymmetric, nat_cmp, nat_cmp_total}
+use Rattle.board_step.proofs.Types.outcomes
+use Rattle.board_step.proofs.Types.{Numbers, contains-insert_number, Message, Targets, Signal, Part, Registry, Counters, Tick, Pic, Ioapic, Lapic, Cause, NoProcessor, BadVector, BadMode, Status, Chip, PinOutcome, Pair, TickState}
+use Rattle.board_step.proofs.Chips.{pin_outcome, LocalApic, power_on, is_enabled, is_nmi, is_taken, accepted, with_error, with_request}
+use Rattle.board_step.proofs.Plans.{ValueOf, Board, part_of, with_part, PicPart, IoapicPart, pair_of, Sent, nobody, is_empty, TargetAnswer, newly_taken, stood_already, no_effect, message_answer, status_of, About, the_reply, Plan, done, put, answer, ◌>>=◌, Wishes, Outcome, run}
+use Rattle.board_step.proofs.Calls.{Processor, named_by, numbers_of, MayReach, ignore, numbers_below, reached_by, see_each, is_illegal, accept_each, deliver, refuse_vector, send_to, send, pic_answer, processors_on, named_on, HasProcessors, IsSending, has_request_on}
+use Rattle.std.proofs.Common.{is_some}
 use Rattle.irq_base.specs.declared.message.Mode.{Mode}
-use Rattle.irq_base.specs.declared.message.Mode.TheVariants.{Fixed, Lowest, Smi, Nmi, Init, Startup, ExtInt, Reserved}
-use Rattle.irq_base.specs.declared.message.Targets.{Targets}
-use Rattle.irq_base.specs.declared.reply.Reply.TheVariants.{Signal}
-use Rattle.irq_base.specs.declared.shape.Part.{Part}
-use Rattle.irq_base.specs.declared.shape.Part.TheVariants.{Registry, Counters, Tick, Pic, Ioapic, Lapic}
-use Rattle.irq_base.specs.declared.status.Cause.{Cause}
-use Rattle.irq_base.specs.declared.status.Cause.TheVariants.{NoProcessor, BadVector, Mode as BadMode}
-use Rattle.irq_base.specs.declared.status.Status.{Status}
-use Rattle.pic_8259a.specs.declared.chip.Chip.{Chip}
-use Rattle.pic_8259a.specs.declared.chip.PinOutcome.{PinOutcome}
-use Rattle.pic_8259a.specs.declared.chip.PinOutcome.TheVariants as outcomes
-use Rattle.pic_8259a.specs.declared.pair.Pair.{Pair}
+use Rattle.irq_base.specs.declared.message.Mode.TheVariants.{Lowest}
 use Rattle.pic_8259a.specs.Accesses.{outcome_of as chip_outcome}
-use Rattle.pic_8259a.specs.Pair.{pin_outcome}
-use Rattle.lapic.specs.Registers.{LocalApic, power_on, is_enabled}
-use Rattle.lapic.specs.Messages.{is_nmi, is_taken, accepted, with_error, with_request}
-use Rattle.tick_reinject.specs.declared.state.TickState.{TickState}
-use Rattle.board_model.specs.Board.{ValueOf, Board, part_of, with_part}
-use Rattle.board_model.specs.Chips.{PicPart, IoapicPart, pair_of}
-use Rattle.board_model.specs.Statuses.{Sent, nobody, is_empty, TargetAnswer, newly_taken, stood_already, no_effect, message_answer, stands, status_of}
-use Rattle.board_model.specs.Plan.{About, the_reply, Plan, done, look, put, tell, answer, choose, ◌>>=◌}
-use Rattle.board_model.specs.Run.{Wishes, Outcome, run}
+use Rattle.board_model.specs.Statuses.{stands}
 use Rattle.board_model.proofs.Lens.{part_of-with_other}
 use Rattle.board_model.proofs.Sequence.{run-bind}
-use Rattle.board_raise.specs.Named.{Processor, named_by, numbers_of, MayReach}
-use Rattle.board_raise.specs.Send.{ignore, numbers_below, reached_by, see_each, is_illegal, accept_each, deliver, refuse_vector, send_to, send}
-use Rattle.board_raise.specs.Signal.{pic_answer}
-use Rattle.board_raise.specs.Laws.{processors_on, named_on, HasProcessors, IsSent, IsSending, has_request_on}
+use Rattle.board_raise.specs.Laws.{IsSent}
 use Rattle.board_raise.proofs.SendExactly.{after_seen, wishes_reach_exactly}
 use Rattle.board_raise.proofs.EffectNamed.{has_any, named_alike}
 use Rattle.board_laws.specs.Effect.{message_on, PicStood, IoapicStood, RequestStood, pic_answer_on, message_answer_by, message_answer_on, other_answer_on, IsSaidOf, is_without_effect, SameRequests}
 use Rattle.board_laws.proofs.EffectStood.{has_stood, pin_stood, ignored_for}
+use Rattle.board_step.proofs.Walk.{Walk, Holds, of_relation, either}
 
 -- ---- plans that answer nothing and leave the requests of a board
 
@@ -54,57 +31,32 @@ HasRequests b Pic v = Unit {0}
 HasRequests b Ioapic v = Unit {0}
 HasRequests b (Lapic n) v = v.irr ≡ (part_of b (Lapic n)).irr
 
--- a plan answers nothing, sends nothing and writes such values alone
-abbrev pub Spares : {A : Type 0} → Board → Plan A → Type 0
-Spares b (done a) = Unit {0}
-Spares b (look p k) = (v : ValueOf p) → Spares b (k v)
-Spares b (put p v rest) = HasRequests b p v × Spares b rest
-Spares b (tell x rest) = Spares b rest
-Spares b (answer r rest) = ⊥
-Spares b (choose m about g k) = ⊥
-
 module _ (b : Board) where
-  pub spares_bind : {A B : Type 0} (f : A → Plan B) (m : Plan A) → Spares b m → ((a : A) → Spares b (f a)) → Spares b (m >>= f)
-  spares_bind f (done a) h next = next a
-  spares_bind f (look p k) h next = λ v. spares_bind f (k v) (h v) next
-  spares_bind f (put p v rest) h next = (h.0, spares_bind f rest h.1 next)
-  spares_bind f (tell x rest) h next = spares_bind f rest h next
-  spares_bind f (answer r rest) h next = absurd h
-  spares_bind f (choose m about g k) h next = absurd h
-
-  spares_answers : {A : Type 0} (m : Plan A) (c : Board) (ws : Wishes) → Spares b m → (run m c ws).log.answers ≡ []
-  spares_answers (done a) c ws h = refl
-  spares_answers (look p k) c ws h = spares_answers (k (part_of c p)) c ws (h (part_of c p))
-  spares_answers (put p v rest) c ws h = spares_answers rest (with_part c p v) ws h.1
-  spares_answers (tell x rest) c ws h = spares_answers rest c ws h
-  spares_answers (answer r rest) c ws h = absurd h
-  spares_answers (choose m about g k) c ws h = absurd h
-
   -- where one is written, whether it is there or not, its requests are those of the board
   written_there : (xs : List LocalApic) (n : ℕ) (v d : LocalApic) (r : Numbers) → v.irr ≡ r → (unwrap_or (slice_get xs n) d).irr ≡ r → (unwrap_or (slice_get (slice_set xs n v) n) d).irr ≡ r
   written_there [] n v d r new old = old
   written_there (x ∷ xs) zero v d r new old = new
   written_there (x ∷ xs) (suc n) v d r new old = written_there xs n v d r new old
 
-  with_requests : (c : Board) (p : Part) (v : ValueOf p) → HasRequests b p v → SameRequests b c → SameRequests b (with_part c p v)
-  with_requests c Registry v h same = same
-  with_requests c Counters v h same = same
-  with_requests c Tick v h same = same
-  with_requests c Pic v h same = same
-  with_requests c Ioapic v h same = same
+  pub with_requests : (c : Board) (p : Part) (v : ValueOf p) → HasRequests b p v → SameRequests b c → SameRequests b (with_part c p v)
   with_requests c (Lapic n) v h same = λ m. elim (nat_eq n m) as (λ t. nat_eq n m ≡ t → (part_of (with_part c (Lapic n) v) (Lapic m)).irr ≡ (part_of b (Lapic m)).irr) [
     | true ↦ λ is. let e : n ≡ m = grind (is, arith) in
         subst (λ k. (part_of (with_part c (Lapic n) v) (Lapic k)).irr ≡ (part_of b (Lapic k)).irr) e (written_there c.lapics n v (power_on n) (part_of b (Lapic n)).irr h (same n))
     | false ↦ λ other. ap (λ (a : LocalApic). a.irr) (part_of-with_other c (Lapic n) (Lapic m) v other) ∙ same m
   ] refl
+  with_requests c _ v h same = same
 
-  pub spares_requests : {A : Type 0} (m : Plan A) (c : Board) (ws : Wishes) → Spares b m → SameRequests b c → SameRequests b (run m c ws).board
-  spares_requests (done a) c ws h same = same
-  spares_requests (look p k) c ws h same = spares_requests (k (part_of c p)) c ws (h (part_of c p)) same
-  spares_requests (put p v rest) c ws h same = spares_requests rest (with_part c p v) ws h.1 (with_requests c p v h.0 same)
-  spares_requests (tell x rest) c ws h same = spares_requests rest c ws h same
-  spares_requests (answer r rest) c ws h same = absurd h
-  spares_requests (choose m about g k) c ws h same = absurd h
+  -- an outcome answers nothing and leaves the requests, where such values alone are written
+  abbrev pub spared : Walk
+  spared = of_relation (record {
+    Good = λ c o. (o.log.answers ≡ []) × (SameRequests b c → SameRequests b o.board);
+    Fit = λ c. Unit {0};
+    May = λ c p v. HasRequests b p v;
+    starts = λ a c ws fit. (refl, λ same. same);
+    puts = λ p v c o fit may h. (h.0, λ same. h.1 (with_requests c p v may same));
+    fits = λ p v c fit may. tt;
+    joins = λ f c o fit h next. let k = next tt in ((λ i. h.0 i ++ k.0 i), λ same. k.1 (h.1 same));
+  })
 
 -- ---- plans that answer one status
 
@@ -116,23 +68,23 @@ pub record Says {A : Type 0} (b : Board) (targets : Targets) (o : Outcome A) : T
 
 module _ (b : Board) (targets : Targets) {A B : Type 0} (f : A → Plan B) (m : Plan A) (c : Board) (ws : Wishes) where
   -- after the status the rest is spared
-  pub says_before : Says b targets (run m c ws) → ((a : A) → Spares b (f a)) → Says b targets (run (m >>= f) c ws)
+  pub says_before : Says b targets (run m c ws) → ((a : A) → Holds (spared b) (f a)) → Says b targets (run (m >>= f) c ws)
   says_before first next =
       let o = run m c ws in
       subst (λ (x : Outcome B). Says b targets x) (sym (run-bind f m c ws)) (record {
         status = first.status;
-        answers = ap (λ l. o.log.answers ++ l) (spares_answers b (f o.value) o.board o.wishes (next o.value)) ∙ append-nil o.log.answers ∙ first.answers;
-        effect = λ quiet. let here = first.effect quiet in (here.0, spares_requests b (f o.value) o.board o.wishes (next o.value) here.1);
+        answers = ap (λ l. o.log.answers ++ l) (next o.value o.board o.wishes tt).0 ∙ append-nil o.log.answers ∙ first.answers;
+        effect = λ quiet. let here = first.effect quiet in (here.0, (next o.value o.board o.wishes tt).1 here.1);
       })
 
   -- before the status all is spared
-  pub says_after : Spares b m → SameRequests b c → ((a : A) (d : Board) (vs : Wishes) → SameRequests b d → Says b targets (run (f a) d vs)) → Says b targets (run (m >>= f) c ws)
+  pub says_after : Holds (spared b) m → SameRequests b c → ((a : A) (d : Board) (vs : Wishes) → SameRequests b d → Says b targets (run (f a) d vs)) → Says b targets (run (m >>= f) c ws)
   says_after first same next =
       let o = run m c ws in
-      let later = next o.value o.board o.wishes (spares_requests b m c ws first same) in
+      let later = next o.value o.board o.wishes ((first c ws tt).1 same) in
       subst (λ (x : Outcome B). Says b targets x) (sym (run-bind f m c ws)) (record {
         status = later.status;
-        answers = ap (λ l. l ++ (run (f o.value) o.board o.wishes).log.answers) (spares_answers b m c ws first) ∙ later.answers;
+        answers = ap (λ l. l ++ (run (f o.value) o.board o.wishes).log.answers) (first c ws tt).0 ∙ later.answers;
         effect = later.effect;
       })
 
@@ -144,16 +96,10 @@ is_lowered outcomes.Lowered = true
 is_lowered _ = false
 
 chip_never_lowers : (c : Chip) (pin : ℕ) → is_lowered (chip_outcome c pin true) ≡ false
-chip_never_lowers c pin = elim (set.contains c.imr pin) as (λ t. is_lowered (if t then outcomes.Masked else if not (set.contains c.high pin) && (set.contains c.elcr pin || not (set.contains c.latches pin)) then outcomes.New else outcomes.Stood) ≡ false) [
-  | true ↦ refl
-  | false ↦ elim (not (set.contains c.high pin) && (set.contains c.elcr pin || not (set.contains c.latches pin))) as (λ t. is_lowered (if t then outcomes.New else outcomes.Stood) ≡ false) [ true ↦ refl | false ↦ refl ]
-]
+chip_never_lowers c pin = grind arith
 
 never_lowers : (p : Pair) (pin : ℕ) → is_lowered (pin_outcome p pin true) ≡ false
-never_lowers p pin = elim (nat_lt pin 8) as (λ t. is_lowered (if t then chip_outcome p.master pin true else chip_outcome p.slave (pin % 8) true) ≡ false) [
-  | true ↦ chip_never_lowers p.master pin
-  | false ↦ chip_never_lowers p.slave (pin % 8)
-]
+never_lowers p pin = grind arith
 
 module _ (b : Board) (targets : Targets) where
   pic_stood : (pin : Option ℕ) → targets.pic ≡ pin → Some stood_already ≡ pic_answer_on b pin → PicStood b targets
@@ -175,9 +121,6 @@ module _ (b : Board) (targets : Targets) where
 
   pub said_of : (pic other : Option TargetAnswer) (sent : Sent) → pic ≡ pic_answer_on b targets.pic → OtherSays other sent.stood → is_without_effect (status_of pic other sent) ≡ true → IsSaidOf b targets (status_of pic other sent)
   said_of (Some newly_taken) other sent is says quiet = absurd (true≢false (sym quiet))
-  said_of None (Some newly_taken) sent is says quiet = absurd (true≢false (sym quiet))
-  said_of (Some stood_already) (Some newly_taken) sent is says quiet = absurd (true≢false (sym quiet))
-  said_of (Some (no_effect cause)) (Some newly_taken) sent is says quiet = absurd (true≢false (sym quiet))
   said_of (Some stood_already) None sent is says quiet = inl (pic_stood targets.pic refl is)
   said_of (Some stood_already) (Some stood_already) sent is says quiet = inl (pic_stood targets.pic refl is)
   said_of (Some stood_already) (Some (no_effect cause)) sent is says quiet = inl (pic_stood targets.pic refl is)
@@ -187,13 +130,11 @@ module _ (b : Board) (targets : Targets) where
   said_of None (Some (no_effect cause)) sent is says quiet = ignored_for b targets None (Some (no_effect cause)) is says refl refl
   said_of (Some (no_effect cause)) None sent is says quiet = ignored_for b targets (Some (no_effect cause)) None is says refl refl
   said_of (Some (no_effect cause)) (Some (no_effect other)) sent is says quiet = ignored_for b targets (Some (no_effect cause)) (Some (no_effect other)) is says refl refl
+  said_of _ (Some newly_taken) sent is says quiet = absurd (true≢false (sym quiet))
 
 -- where the message is newly taken, there is an effect
 newly_has_effect : (pic : Option TargetAnswer) (sent : Sent) → is_without_effect (status_of pic (Some newly_taken) sent) ≡ false
-newly_has_effect None sent = refl
-newly_has_effect (Some newly_taken) sent = refl
-newly_has_effect (Some stood_already) sent = refl
-newly_has_effect (Some (no_effect cause)) sent = refl
+newly_has_effect pic sent = grind arith
 
 -- ---- what a local APIC keeps of its requests
 
@@ -220,13 +161,7 @@ had_stays a m has = by_tests a m (is_nmi m.mode) (is_enabled a) (nat_lt m.vector
 
 -- nor does a message with an illegal vector
 illegal_stays : (a : LocalApic) (m : Message) → is_illegal m ≡ true → (accepted a m).irr ≡ a.irr
-illegal_stays a m illegal = of_tests (is_nmi m.mode) (is_enabled a) (nat_lt m.vector 16) illegal
-  where
-    of_tests : (nmi enabled low : Bool) → (if nmi then false else low) ≡ true → (if nmi then record a { nmi = true } else if not enabled then a else if low then with_error a 6 else with_request a m).irr ≡ a.irr
-    of_tests true enabled low h = absurd (true≢false (sym h))
-    of_tests false false low h = refl
-    of_tests false true true h = refl
-    of_tests false true false h = absurd (true≢false (sym h))
+illegal_stays a m h1 = grind arith
 
 -- ---- a sending
 
@@ -245,13 +180,7 @@ someone_reached mode p ps s may = of_mode mode may
       where
         itself : (n : ℕ) (t : Bool) → (nat_eq n n || t) ≡ true
         itself n t = grind arith
-    of_mode Fixed is = first is
-    of_mode Smi is = first is
-    of_mode Nmi is = first is
-    of_mode Init is = first is
-    of_mode Startup is = first is
-    of_mode ExtInt is = first is
-    of_mode Reserved is = first is
+    of_mode _ is = first is
 
 -- an empty set has no member
 no_member : (s : Numbers) (k : ℕ) → is_empty s ≡ true → set.contains s k ≡ false
@@ -266,8 +195,7 @@ module _ (b : Board) (stand : HasProcessors b b.shape.cpus) (targets : Targets) 
   stand_still = record { places = stand.places; numbers = stand.numbers }
 
   processors_alike : (ns : List ℕ) → processors_on d ns ≡ processors_on b ns
-  processors_alike [] = refl
-  processors_alike (n ∷ ns) = ap (λ l. record { number = n; apic = part_of b (Lapic n) } ∷ l) (processors_alike ns)
+  processors_alike ns = grind arith
 
   abbrev about : About
   about = the_reply (pic_answer_on b targets.pic)
@@ -295,12 +223,14 @@ module _ (b : Board) (stand : HasProcessors b b.shape.cpus) (targets : Targets) 
     named_is = ap (named_by message None) (processors_alike (numbers_below b.shape.cpus))
 
     -- the illegal vector is recorded alone
-    refused_spares : (takers : Numbers) (ns : List ℕ) → is_illegal message ≡ true → Spares b (accept_each message takers (processors_on d ns))
-    refused_spares takers [] illegal = tt
-    refused_spares takers (n ∷ ns) illegal = elim (set.contains takers n) as (λ t. Spares b (if t then put (Lapic n) (accepted (part_of b (Lapic n)) message) (accept_each message takers (processors_on d ns)) else accept_each message takers (processors_on d ns))) [
-      | true ↦ (illegal_stays (part_of b (Lapic n)) message illegal, refused_spares takers ns illegal)
-      | false ↦ refused_spares takers ns illegal
-    ]
+    refused_spares : (takers : Numbers) (ns : List ℕ) → is_illegal message ≡ true → Holds (spared b) (accept_each message takers (processors_on d ns))
+    refused_spares takers [] illegal = λ c ws fit. (refl, λ same. same)
+    refused_spares takers (n ∷ ns) illegal =
+        let v = accepted (part_of b (Lapic n)) message in
+        let rest = accept_each message takers (processors_on d ns) in
+        either (spared b) (set.contains takers n) (put (Lapic n) v rest) rest
+        (λ c ws fit. (spared b).puts (Lapic n) v rest c ws fit (illegal_stays (part_of b (Lapic n)) message illegal) (λ fit. refused_spares takers ns illegal (with_part c (Lapic n) v) ws fit))
+        (refused_spares takers ns illegal)
 
     -- a message that was sent
     module _ (p : Processor) (ps : List Processor) (taken : is_taken message.mode ≡ true) (named : named_on d b.shape.cpus message None ≡ p ∷ ps) (legal : is_illegal message ≡ false) where
@@ -348,10 +278,7 @@ module _ (b : Board) (stand : HasProcessors b b.shape.cpus) (targets : Targets) 
       delivered_says = let only_so = (wishes_reach_exactly b.shape.cpus message None about d stand_still is_sent).only ws in sending_says (run (send b.shape.cpus message None about) d ws) only_so.1 only_so.2
 
     to_named : is_taken message.mode ≡ true → (seen : List Processor) → named_by message None looked ≡ seen → run (send b.shape.cpus message None about) d ws ≡ run (send_to message None about looked seen) d ws
-    to_named taken seen is =
-        ap (λ t. run (if not t then ignore about BadMode else (see_each (reached_by message None b.shape.cpus) >>= f)) d ws) taken
-        ∙ after_seen f d (reached_by message None b.shape.cpus) ws
-        ∙ ap (λ l. run (send_to message None about looked l) d ws) is
+    to_named taken seen is = grind (arith, after_seen, looked)
 
     by_mode : is_taken message.mode ≡ true → message_answer_on b b.shape.cpus message ≡ message_answer_by message (named_on b b.shape.cpus message None)
     by_mode taken = ap (λ t. if not t then no_effect BadMode else message_answer_by message (named_on b b.shape.cpus message None)) taken

@@ -1,39 +1,19 @@
 -- What stood where a chip answers that its pin stood, and that its pin is masked where it answers so.
-use Rattle.std.proofs.Common.{◌≡◌, ℕ, ◌+◌, ◌%◌, ◌≤◌, Bool, true, false, not, ◌&&◌, ◌||◌, nat_lt, if◌then◌else◌, ◌⊎◌, inl, inr, List, [], ◌∷◌, refl, sym, ap, ◌∙◌, true≢false, arith, Some, None}
-use Rattle.std.specs.Cmp.{second_so}
-use Rattle.std.specs.declared.option.Option.{Option}
-use Rattle.std.specs.FinSet as set
-use Rattle.std.proofs.lemmas.Bool.Decides.{nat_tests}
+use Rattle.board_step.proofs.Basics.set
+use Rattle.board_step.proofs.Basics.{◌≡◌, ℕ, ◌+◌, ◌%◌, Bool, true, false, not, ◌&&◌, ◌||◌, nat_lt, if◌then◌else◌, ◌⊎◌, inl, inr, refl, sym, ap, ◌∙◌, true≢false, arith, Some, None, second_so, Option}
+use Rattle.board_step.proofs.Types.outcomes
+use Rattle.board_step.proofs.Types.raises
+use Rattle.board_step.proofs.Types.{Numbers, contains-set_below, Message, MsiWord, Targets, Cause, Masked, Chip, PinOutcome, Raise}
+use Rattle.board_step.proofs.Chips.{pin_outcome, raise_of, message_of, message_in, is_high}
+use Rattle.board_step.proofs.Plans.{Board, PicPart, IoapicPart, pair_of, ioapic_of, TargetAnswer, newly_taken, stood_already, no_effect}
 use borrow.Author.Tests.{ltb-true}
 use Rattle.irq_bits.specs.InverseLemmas.{mod_small}
-use Rattle.irq_bits.specs.Members.{Numbers, set_below}
-use Rattle.irq_bits.specs.SetLemmas.{contains-set_below}
-use Rattle.irq_base.specs.declared.message.Message.{Message}
-use Rattle.irq_base.specs.declared.message.MsiWord.{MsiWord}
-use Rattle.irq_base.specs.declared.message.Targets.{Targets}
-use Rattle.irq_base.specs.declared.status.Cause.{Cause}
+use Rattle.irq_bits.specs.Members.{set_below}
 use Rattle.irq_base.specs.declared.status.Cause.TheVariants as causes
-use Rattle.irq_base.specs.declared.status.Cause.TheVariants.{Masked}
-use Rattle.pic_8259a.specs.declared.chip.Chip.{Chip}
-use Rattle.pic_8259a.specs.declared.chip.PinOutcome.{PinOutcome}
-use Rattle.pic_8259a.specs.declared.chip.PinOutcome.TheVariants as outcomes
 use Rattle.pic_8259a.specs.Accesses.{outcome_of}
-use Rattle.pic_8259a.specs.Pair.{pin_outcome}
-use Rattle.ioapic_82093aa.specs.declared.ioapic.Raise.{Raise}
-use Rattle.ioapic_82093aa.specs.declared.ioapic.Raise.TheVariants as raises
-use Rattle.ioapic_82093aa.specs.Pins.{raise_of}
-use Rattle.ioapic_82093aa.specs.Entries.{message_of}
-use Rattle.lapic.specs.Messages.{is_taken}
-use Rattle.msi_decode.specs.Messages.{message_in}
-use Rattle.source_levels.specs.Holds.{is_high}
-use Rattle.board_model.specs.Board.{Board}
-use Rattle.board_model.specs.Chips.{PicChip, PicPart, IoapicPart, chip_of, master_high, slave_high, ioapic_high, pair_of, ioapic_of}
-use Rattle.board_model.specs.Statuses.{TargetAnswer, newly_taken, stood_already, no_effect, first_cause}
-use Rattle.board_raise.specs.Named.{Processor}
-use Rattle.board_raise.specs.Send.{is_illegal}
-use Rattle.board_raise.specs.Signal.{pic_answer}
-use Rattle.board_raise.specs.Laws.{named_on}
-use Rattle.board_laws.specs.Effect.{chip_with_pin, is_pic_masked, PicPinsHaveTheirLines, is_pic_high, IsLatched, redirection_of, HasRemoteIrr, IsEdgeHigh, pic_answer_on, message_answer_by, message_answer_on, raise_answer_on, other_answer_on, cause_on, lacks_effect, HasNoTarget, IsIgnoredFor, PicMasked, IoapicMasked}
+use Rattle.board_model.specs.Chips.{PicChip, chip_of, master_high, slave_high, ioapic_high}
+use Rattle.board_model.specs.Statuses.{first_cause}
+use Rattle.board_laws.specs.Effect.{chip_with_pin, is_pic_masked, PicPinsHaveTheirLines, is_pic_high, IsLatched, redirection_of, HasRemoteIrr, IsEdgeHigh, pic_answer_on, message_answer_on, raise_answer_on, other_answer_on, cause_on, lacks_effect, HasNoTarget, IsIgnoredFor, PicMasked, IoapicMasked}
 
 -- what is in the numbers below a bound that pass, passes
 in_passes : (k : ℕ) (p : ℕ → Bool) (n : ℕ) → set.contains (set_below k p) n ≡ true → p n ≡ true
@@ -58,19 +38,10 @@ level_stood c level h = by_bits (set.contains c.imr level) (set.contains c.high 
   where
     by_bits : (masked high levelled latched : Bool) → has_stood (if masked then outcomes.Masked else if not high && (levelled || not latched) then outcomes.New else outcomes.Stood) ≡ true
         → (masked ≡ false) × ((high ≡ true) ⊎ ((levelled ≡ false) × (latched ≡ true)))
-    by_bits true high levelled latched h = absurd (true≢false (sym h))
-    by_bits false true levelled latched h = (refl, inl refl)
-    by_bits false false true latched h = absurd (true≢false (sym h))
-    by_bits false false false true h = (refl, inr (refl, refl))
-    by_bits false false false false h = absurd (true≢false (sym h))
+    by_bits masked high levelled latched h1 = grind arith
 
 level_masked : (c : Chip) (level : ℕ) → is_masked (outcome_of c level true) ≡ true → set.contains c.imr level ≡ true
-level_masked c level h = by_bits (set.contains c.imr level) (not (set.contains c.high level) && (set.contains c.elcr level || not (set.contains c.latches level))) h
-  where
-    by_bits : (masked new : Bool) → is_masked (if masked then outcomes.Masked else if new then outcomes.New else outcomes.Stood) ≡ true → masked ≡ true
-    by_bits true new h = refl
-    by_bits false true h = absurd (true≢false (sym h))
-    by_bits false false h = absurd (true≢false (sym h))
+level_masked c level h1 = grind arith
 
 -- what stood at a pin of the pair
 abbrev pub PinStood : PicPart → ℕ → Type 0
@@ -86,8 +57,7 @@ module _ (pic : PicPart) (pin : ℕ) where
   of_level chip is high line stood = (ap (λ (c : PicChip). set.contains c.imr (pin % 8)) is ∙ stood.0, of_reason stood.1)
     where
       of_reason : (set.contains high (pin % 8) ≡ true) ⊎ ((set.contains chip.elcr (pin % 8) ≡ false) × (set.contains chip.latches (pin % 8) ≡ true)) → (is_pic_high pic pin ≡ true) ⊎ IsLatched pic pin
-      of_reason (inl h) = inl (line h)
-      of_reason (inr h) = inr (record { edge = ap (λ (c : PicChip). set.contains c.elcr (pin % 8)) is ∙ h.0; latched = ap (λ (c : PicChip). set.contains c.latches (pin % 8)) is ∙ h.1 })
+      of_reason h1 = grind arith
 
   abbrev master : Chip
   master = chip_of pic.master (master_high pic.holds)
@@ -109,20 +79,13 @@ module _ (pic : PicPart) (pin : ℕ) where
           (level_stood slave (pin % 8) h)
 
   pub pin_masked : is_masked (pin_outcome (pair_of pic) pin true) ≡ true → is_pic_masked pic pin ≡ true
-  pin_masked h = of_half (nat_lt pin 8) refl h
-    where
-      of_half : (t : Bool) → nat_lt pin 8 ≡ t → is_masked (if t then outcome_of master pin true else outcome_of slave (pin % 8) true) ≡ true → is_pic_masked pic pin ≡ true
-      of_half true below h =
-          ap (λ t. set.contains (if t then pic.master else pic.slave).imr (pin % 8)) below
-          ∙ level_masked master (pin % 8) (ap (λ n. is_masked (outcome_of master n true)) (own_level below) ∙ h)
-      of_half false past h = ap (λ t. set.contains (if t then pic.master else pic.slave).imr (pin % 8)) past ∙ level_masked slave (pin % 8) h
+  pin_masked h1 = grind arith
 
 pub pic_pins_have_their_lines : PicPinsHaveTheirLines
 pic_pins_have_their_lines pin below = of_half (nat_lt pin 8) refl
   where
     of_half : (t : Bool) → nat_lt pin 8 ≡ t → (if t then pin else pin % 8 + 8) ≡ pin
-    of_half true first = refl
-    of_half false past = let from : 8 ≤ pin = grind (past, arith, nat_tests) in omega (from, below, arith)
+    of_half t h1 = grind arith
 
 -- ---- the I/O APIC
 
@@ -137,11 +100,7 @@ raise_masked _ = false
 module _ (part : IoapicPart) (pin : ℕ) where
   by_entry : (masked level remote_irr high : Bool) (message : Message) → raise_stood (if masked then raises.Masked else if (if level then remote_irr else high) then raises.Stood else raises.Send message) ≡ true
       → (masked ≡ false) × (((level ≡ true) × (remote_irr ≡ true)) ⊎ ((level ≡ false) × (high ≡ true)))
-  by_entry true level remote_irr high message h = absurd (true≢false (sym h))
-  by_entry false true true high message h = (refl, inl (refl, refl))
-  by_entry false true false high message h = absurd (true≢false (sym h))
-  by_entry false false remote_irr true message h = (refl, inr (refl, refl))
-  by_entry false false remote_irr false message h = absurd (true≢false (sym h))
+  by_entry masked level remote_irr high message h1 = grind arith
 
   -- what stood at a pin of the I/O APIC
   pub raised_stood : raise_stood (raise_of (ioapic_of part) pin) ≡ true → ((redirection_of part pin).masked ≡ false) × (HasRemoteIrr part pin ⊎ IsEdgeHigh part pin)
@@ -155,14 +114,7 @@ module _ (part : IoapicPart) (pin : ℕ) where
       of_reason (inr h) = inr (record { edge = h.0; high = in_passes 24 (is_high part.holds) pin h.1 })
 
   pub raised_masked : raise_masked (raise_of (ioapic_of part) pin) ≡ true → (redirection_of part pin).masked ≡ true
-  raised_masked h =
-      let entry = redirection_of part pin in
-      by_bits entry.masked (if entry.level then entry.remote_irr else set.contains (ioapic_high part.holds) pin) (message_of entry) h
-    where
-      by_bits : (masked stands : Bool) (message : Message) → raise_masked (if masked then raises.Masked else if stands then raises.Stood else raises.Send message) ≡ true → masked ≡ true
-      by_bits true stands message h = refl
-      by_bits false true message h = absurd (true≢false (sym h))
-      by_bits false false message h = absurd (true≢false (sym h))
+  raised_masked h1 = grind arith
 
 -- ---- causes
 
@@ -182,40 +134,16 @@ is_unrouted _ = false
 module _ (asked : Cause → Bool) where
   -- where the first cause passes, one of two targets answers it, or neither is there to have a cause
   one_answers : (pic other : Option TargetAnswer) → asked (first_cause pic other) ≡ true → (answers_cause asked pic ≡ true) ⊎ ((answers_cause asked other ≡ true) ⊎ (asked causes.Unrouted ≡ true))
-  one_answers (Some (no_effect cause)) other h = inl h
-  one_answers None (Some (no_effect cause)) h = inr (inl h)
-  one_answers (Some newly_taken) (Some (no_effect cause)) h = inr (inl h)
-  one_answers (Some stood_already) (Some (no_effect cause)) h = inr (inl h)
-  one_answers None None h = inr (inr h)
-  one_answers None (Some newly_taken) h = inr (inr h)
-  one_answers None (Some stood_already) h = inr (inr h)
-  one_answers (Some newly_taken) None h = inr (inr h)
-  one_answers (Some newly_taken) (Some newly_taken) h = inr (inr h)
-  one_answers (Some newly_taken) (Some stood_already) h = inr (inr h)
-  one_answers (Some stood_already) None h = inr (inr h)
-  one_answers (Some stood_already) (Some newly_taken) h = inr (inr h)
-  one_answers (Some stood_already) (Some stood_already) h = inr (inr h)
+  one_answers pic other h1 = grind arith
 
   module _ (b : Board) (no_mode : asked causes.Mode ≡ false) (no_vector : asked causes.BadVector ≡ false) (nobody : asked causes.NoProcessor ≡ false) where
     -- a message answers the causes of messages alone
     message_never : (message : Message) → answers_cause asked (Some (message_answer_on b b.shape.cpus message)) ≡ false
-    message_never message = by_tests (is_taken message.mode) (named_on b b.shape.cpus message None)
-      where
-        by_tests : (taken : Bool) (ps : List Processor) → answers_cause asked (Some (if not taken then no_effect causes.Mode else message_answer_by message ps)) ≡ false
-        by_tests false ps = no_mode
-        by_tests true [] = nobody
-        by_tests true (p ∷ ps) = elim (is_illegal message) as (λ t. answers_cause asked (Some (if t then no_effect causes.BadVector else newly_taken)) ≡ false) [ true ↦ no_vector | false ↦ refl ]
+    message_never message = grind arith
 
     -- an 8259A pin answers that it is masked alone
     pic_answers : (pin : Option ℕ) → answers_cause asked (pic_answer_on b pin) ≡ true → (n : ℕ) × (pin ≡ Some n) × (is_masked (pin_outcome (pair_of b.pic) n true) ≡ true) × (asked Masked ≡ true)
-    pic_answers None h = absurd (true≢false (sym h))
-    pic_answers (Some pin) h = of_outcome (pin_outcome (pair_of b.pic) pin true) refl h
-      where
-        of_outcome : (o : PinOutcome) → pin_outcome (pair_of b.pic) pin true ≡ o → answers_cause asked (Some (pic_answer o)) ≡ true → (n : ℕ) × (Some pin ≡ Some n) × (is_masked (pin_outcome (pair_of b.pic) n true) ≡ true) × (asked Masked ≡ true)
-        of_outcome outcomes.Masked is h = (pin, refl, ap is_masked is, h)
-        of_outcome outcomes.New is h = absurd (true≢false (sym h))
-        of_outcome outcomes.Stood is h = absurd (true≢false (sym h))
-        of_outcome outcomes.Lowered is h = absurd (true≢false (sym h))
+    pic_answers pin h1 = grind arith
 
     -- so does a pin of the I/O APIC, or as its message
     other_answers : (ioapic : Option ℕ) (msi : Option MsiWord) → answers_cause asked (other_answer_on b b.shape.cpus ioapic msi) ≡ true → (n : ℕ) × (ioapic ≡ Some n) × (raise_masked (raise_of (ioapic_of b.ioapic) n) ≡ true) × (asked Masked ≡ true)
@@ -252,13 +180,10 @@ module _ (b : Board) (targets : Targets) where
       all_none gone = (λ i. first_cause (is i) (says i)) ∙ (λ i. first_cause (pic_answer_on b (gone.pic i)) (other_answer_on b b.shape.cpus (gone.ioapic i) (gone.msi i)))
 
       no_pin : (pin : Option ℕ) → None ≡ pic_answer_on b pin → pin ≡ None
-      no_pin None h = refl
-      no_pin (Some pin) h = cc
+      no_pin pin h1 = grind arith
 
       no_other_target : (ioapic : Option ℕ) (msi : Option MsiWord) → None ≡ other_answer_on b b.shape.cpus ioapic msi → (ioapic ≡ None) × (msi ≡ None)
-      no_other_target None None h = (refl, refl)
-      no_other_target None (Some word) h = cc
-      no_other_target (Some pin) msi h = cc
+      no_other_target ioapic msi h1 = grind arith
 
       none : (pic other : Option TargetAnswer) → pic ≡ pic_answer_on b targets.pic → other ≡ other_answer_on b b.shape.cpus targets.ioapic targets.msi → lacks_effect pic ≡ true → lacks_effect other ≡ true → is_unrouted (first_cause pic other) ≡ true → HasNoTarget targets
       none None None is says no_pic no_other h = let both = no_other_target targets.ioapic targets.msi says in record { pic = no_pin targets.pic is; ioapic = both.0; msi = both.1 }

@@ -1,45 +1,15 @@
 -- In every legal history Resample holds a pin only where the pin's GSI has a resampler.
-use Rattle.std.proofs.Common.{arith, ◌≡◌, ℕ, Bool, true, false, not, ◌||◌, nat_eq, nat_lt, List, [], ◌∷◌, ◌++◌, Some, None, refl, sym, ap, subst, ◌∙◌, true≢false}
-use Rattle.std.specs.Prelude.{IsTrue, AllPairs, is_some, slice_index}
-use Rattle.std.specs.FinSet as set
-use Rattle.std.specs.FinSet.{contains-empty}
-use Rattle.std.specs.declared.option.Option.{Option}
-use Rattle.std.proofs.lemmas.List.Elements.{All-weaker}
-use Rattle.std.proofs.lemmas.List.Kept.{AllPairs-filter}
-use Rattle.irq_base.specs.Refusals.{first_of}
-use Rattle.irq_base.specs.declared.call.Call.{Call}
-use Rattle.irq_base.specs.declared.call.Call.TheVariants as calls
-use Rattle.irq_base.specs.declared.call.Caller.{Caller}
-use Rattle.irq_base.specs.declared.call.Row.{Row}
-use Rattle.irq_base.specs.declared.event.Pin.{Pin}
-use Rattle.irq_base.specs.declared.event.Pin.TheVariants as pins
-use Rattle.irq_base.specs.declared.message.Source.{Source}
-use Rattle.irq_base.specs.declared.message.Source.TheVariants.{Resample, Line, Tick as TickSource}
-use Rattle.irq_base.specs.declared.lists.Entry.{Entry}
-use Rattle.irq_base.specs.declared.refusal.Refusal.{Refusal}
-use Rattle.irq_base.specs.declared.refusal.Refusal.TheVariants.{Busy, RoleClash}
-use Rattle.irq_base.specs.declared.reply.Reply.TheVariants.{Done, Removed}
-use Rattle.irq_base.specs.declared.shape.Shape.{Shape}
-use Rattle.source_levels.specs.Holds.{Holds as PinHolds, hold, hold_cmp}
-use Rattle.irqfd_set.specs.declared.irqfds.Irqfd.{Irqfd}
-use Rattle.irqfd_set.specs.Rows as irqfds
-use Rattle.route_table.specs.Rows.{table_of, targets_of, refusal_of}
-use Rattle.route_table.specs.Pins.{gsi_of}
-use Rattle.route_table.specs.Defaults.{default_rows}
+use Rattle.board_step.proofs.Basics.set
+use Rattle.board_step.proofs.Basics.{arith, ◌≡◌, ℕ, Bool, true, false, not, ◌||◌, nat_eq, nat_lt, List, [], ◌∷◌, ◌++◌, Some, None, refl, sym, ap, subst, ◌∙◌, true≢false, IsTrue, AllPairs, is_some, slice_index, contains-empty, Option, All-weaker, AllPairs-filter}
+use Rattle.board_step.proofs.Types.calls
+use Rattle.board_step.proofs.Types.pins
+use Rattle.board_step.proofs.Types.{first_of, Call, Caller, Row, Pin, Source, Resample, Line, TickSource, Entry, Refusal, Busy, RoleClash, Done, Removed, Shape, Irqfd, TickState}
+use Rattle.board_step.proofs.Chips.irqfds
+use Rattle.board_step.proofs.Chips.{PinHolds, hold, hold_cmp, table_of, targets_of, refusal_of, gsi_of, default_rows, ticked, tick_injects, taken}
+use Rattle.board_step.proofs.Plans.{Board, RegistryPart, Routing, routing_of_registry, injected, the_reply, Plan, reply, ◌>>◌, Wishes, run}
+use Rattle.board_step.proofs.Calls.{is_signalled, resample_clashes, is_trigger, range_reasons, assign_reasons, attach_reasons, detach_reasons, watch_reasons, unwatch_reasons, unless_refused, source_of, inject_count, was_last_resampler, release, deassigned, kept_holds, tick_or_hold, number_of, io_row, plan_in_range}
 use Rattle.route_table.proofs.DefaultLaws.{default_rows-kept}
 use Rattle.route_table.proofs.Sound.{no_reason}
-use Rattle.tick_reinject.specs.declared.state.TickState.{TickState}
-use Rattle.tick_reinject.specs.Ticks.{ticked, tick_injects}
-use Rattle.event_counter.specs.Counters.{taken}
-use Rattle.board_model.specs.Board.{Board}
-use Rattle.board_model.specs.Registry.{RegistryPart}
-use Rattle.board_model.specs.Routing.{Routing, routing_of_registry}
-use Rattle.board_model.specs.Plan.{injected, the_reply, Plan, reply, ◌>>◌}
-use Rattle.board_model.specs.Run.{Wishes, run}
-use Rattle.board_calls.specs.Refusals.{is_signalled, resample_clashes, is_trigger, range_reasons, assign_reasons, attach_reasons, detach_reasons, watch_reasons, unwatch_reasons}
-use Rattle.board_calls.specs.Registrations.{unless_refused, source_of, inject_count, was_last_resampler, release, deassigned, kept_holds}
-use Rattle.board_calls.specs.Ticks.{tick_or_hold}
-use Rattle.board_calls.specs.Calls.{number_of, io_row, plan_in_range}
 use Rattle.board_step.specs.Sound.{HasResampler, ResamplersHold}
 use Rattle.board_step.specs.Step.{would_publish, plan_on, outcome_of, with_counts, Step}
 use Rattle.board_step.specs.History.{opening}
@@ -50,8 +20,8 @@ use Rattle.board_step.proofs.SoundCalls.{line_is_not, tick_is_not, resamples_if}
 use Rattle.board_step.proofs.SoundChanges.{more_resampler, own_row}
 use Rattle.board_step.proofs.SoundLeaving.{freed_run, without, kept_for, kept_resampler, freed_pic, freed_ioapic}
 use Rattle.board_step.proofs.Walk.{Walk, Holds, after}
-use Rattle.board_step.proofs.WalkSignals.{MayRaise, inject_only}
-use Rattle.board_step.proofs.WalkCalls.{is_plain, plain_holds}
+use Rattle.board_step.proofs.WalkSignals.{MayRaise}
+use Rattle.board_step.proofs.WalkCalls.{is_plain, inject_count_holds, plain_holds}
 use Rattle.board_step.proofs.WalkKept.{walk, shows, signals_kept, KeptBySignals, KeptByCalls, tick_kept, calls_kept}
 use Rattle.board_laws.specs.Points.{OfLegalHistories}
 use Rattle.board_laws.specs.Holds.{HoldsForResamplers, ResampleHoldsForResamplers}
@@ -197,10 +167,9 @@ module _ (b : Board) (ws : Wishes) (s : Stands b) where
       fires = may t s.made gsi (source_of (is_some resample)) (λ is. own_row r row (resamples_if (is_some resample) is))
 
       by_count : (injects : Bool) → Stands (run (inject_count routes b.shape gsi resample injects >> reply Done) during ws).board
-      by_count false = stands_after t during s.made apart now
-      by_count true = stands_after t (run (inject_count routes b.shape gsi resample true >> reply Done) during ws).board s.made apart
-          (after (held t s.made) (inject_count routes b.shape gsi resample true) (reply Done)
-          (inject_only (held t s.made) b.shape.cpus (signals_kept (HeldWith t) (held_signals t s.made) b.shape.cpus) (targets_of t.table gsi) (source_of (is_some resample)) fires (λ pic. injected gsi pic) (λ pic. shows (HeldWith t) (injected gsi pic)))
+      by_count injects = stands_after t (run (inject_count routes b.shape gsi resample injects >> reply Done) during ws).board s.made apart
+          (after (held t s.made) (inject_count routes b.shape gsi resample injects) (reply Done)
+          (inject_count_holds (held t s.made) routes b.shape (signals_kept (HeldWith t) (held_signals t s.made)) gsi resample fires (λ pic. shows (HeldWith t) (held_signals t s.made) (injected gsi pic)) injects)
           (λ c vs h. h) during ws now)
 
   deassigned_stands : (trigger gsi : ℕ) (row : Option Irqfd) → irqfds.named_row r.irqfds trigger gsi ≡ row → Stands (run (deassigned routes r trigger gsi row) b ws).board

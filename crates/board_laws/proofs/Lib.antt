@@ -1,7 +1,6 @@
 pub mod Points
 pub mod PendingPlans
 pub mod PendingSends
-pub mod PendingSignals
 pub mod PendingCalls
 pub mod PendingTaking
 pub mod PendingHistory

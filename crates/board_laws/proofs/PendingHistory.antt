@@ -1,25 +1,11 @@
 -- Requests stay pending until they are taken, along every legal history.
-use Rattle.std.proofs.Common.{◌≡◌, ℕ, ◌+◌, Bool, true, false, All, ◌&&◌, ◌||◌, nat_lt, ◌⊎◌, inl, inr, true≢false, List, [], ◌∷◌, ◌++◌, map, length, refl, sym, ap, subst, ◌∙◌, arith}
-use Rattle.std.specs.Prelude.{slice_get, unwrap_or}
-use Rattle.std.specs.List.{list_any}
-use Rattle.irq_base.specs.Callers.{is_allowed}
-use Rattle.irq_base.specs.declared.call.Call.{Call}
-use Rattle.irq_base.specs.declared.call.Call.TheVariants as calls
-use Rattle.irq_base.specs.declared.call.Caller.{Caller}
-use Rattle.irq_base.specs.declared.call.Caller.TheVariants.{Device, Cpu}
-use Rattle.irq_base.specs.declared.lists.Entry.{Entry}
-use Rattle.irq_base.specs.declared.message.Message.{Message}
-use Rattle.irq_base.specs.declared.reply.Reply.{Reply}
-use Rattle.irq_base.specs.declared.shape.Shape.{Shape}
-use Rattle.lapic.specs.Registers.{LocalApic, power_on}
-use Rattle.board_model.specs.Board.{Board}
-use Rattle.board_model.specs.Routing.{Routing, routing_of_registry}
-use Rattle.board_model.specs.Run.{Sending}
+use Rattle.board_step.proofs.Basics.{◌≡◌, ℕ, ◌+◌, Bool, true, false, All, ◌&&◌, ◌||◌, ◌⊎◌, inl, inr, List, [], ◌∷◌, ◌++◌, map, length, refl, sym, ap, subst, ◌∙◌, arith, slice_get, unwrap_or, list_any}
+use Rattle.board_step.proofs.Types.calls
+use Rattle.board_step.proofs.Types.{is_allowed, first_of, Call, Caller, Entry, Message, Reply, Shape}
+use Rattle.board_step.proofs.Chips.{LocalApic, power_on}
+use Rattle.board_step.proofs.Plans.{Board, Routing, routing_of_registry, Sending}
+use Rattle.board_step.proofs.Calls.{numbers_below, has_request_on, range_reasons, number_of}
 use Rattle.board_model.proofs.Staying.{frame_stays}
-use Rattle.board_raise.specs.Send.{numbers_below}
-use Rattle.board_raise.specs.Laws.{has_request_on}
-use Rattle.board_calls.specs.Refusals.{range_reasons}
-use Rattle.board_calls.specs.Calls.{number_of, plan_in_range}
 use Rattle.board_step.specs.Step.{would_publish, plan_on, outcome_of, with_counts, Step}
 use Rattle.board_step.specs.History.{Leads, wishes_shown, next_board}
 use Rattle.board_laws.specs.Points.{Point, board_at, board_left, IsLegal, OfLegalHistories}
@@ -28,12 +14,12 @@ use Rattle.board_step.proofs.Following.{steps_are_followed, next_is}
 use Rattle.board_laws.proofs.Points.{step_at, after_point, holds_at, at_points}
 use Rattle.board_step.proofs.SoundOpening.{number_at, apics_many, apics_numbered}
 use Rattle.board_laws.proofs.PendingPlans.{or_later, has, at, Fine, IsMade, Good}
-use Rattle.board_laws.proofs.PendingCalls.{unless_safe, in_range_safe}
+use Rattle.board_laws.proofs.PendingCalls.{call_safe}
 use Rattle.board_laws.proofs.PendingTaking.{Taking, TakingRun, next_taking}
 
 -- ---- a board at power-on
 
-opening_fine : (cpus : ℕ) → Fine cpus (map power_on (numbers_below cpus))
+pub opening_fine : (cpus : ℕ) → Fine cpus (map power_on (numbers_below cpus))
 opening_fine cpus = record {
   places = let many : length (map power_on (numbers_below cpus)) ≡ cpus = apics_many cpus in omega (many, arith);
   numbers = λ n. let at : (unwrap_or (slice_get (map power_on (numbers_below cpus)) n) (power_on n)).number ≡ 0 + n = number_at 0 (map power_on (numbers_below cpus)) n (power_on n) (apics_numbered cpus) (omega arith) in omega (arith, at);
@@ -42,8 +28,7 @@ opening_fine cpus = record {
 -- ---- one entry
 
 is_ack_is : (call : Call) → is_ack call ≡ true → call ≡ calls.Ack
-is_ack_is calls.Ack h = refl
-is_ack_is _ h = absurd (true≢false (sym h))
+is_ack_is call h1 = grind arith
 
 -- the sendings of an entry, and the board after its plan
 abbrev made_by : Board → Entry → List (Board × Sending)
@@ -65,7 +50,7 @@ loses_none b e fine = of_ack (is_ack e.call) refl
     routing = routing_of_registry b.registry b.shape.tick
 
     of_ack : (t : Bool) → is_ack e.call ≡ t → LosesNone b e (after_plan b e).lapics
-    of_ack false other = inl (unless_safe routing b.shape (range_reasons b.shape e.call) (plan_in_range routing b.shape (number_of e.caller) e.call) (in_range_safe routing b.shape (number_of e.caller) e.call other) b (wishes_shown e) fine)
+    of_ack false other = inl (call_safe routing b.shape (first_of (range_reasons b.shape e.call)) (number_of e.caller) e.call other b (wishes_shown e) fine)
     of_ack true is =
         let ack : e.call ≡ calls.Ack = is_ack_is e.call is in
         inr (ack, subst (λ (c : Call). TakingRun b.shape.cpus (number_of e.caller) (plan_on b e.caller c) b (wishes_shown e)) (sym ack) (next_taking routing b.shape (number_of e.caller) b (wishes_shown e) fine))
@@ -78,21 +63,17 @@ record Passes (shape : Shape) (b : Board) (e : Entry) : Type 0 where
   sent : All (λ (x : Board × Sending). IsMade shape.cpus (next_board b e).lapics x.0 x.1) (made_by b e)
 
 counted_lapics : (t : Bool) (o : Board) → (with_counts t o).lapics ≡ o.lapics
-counted_lapics true o = refl
-counted_lapics false o = refl
+counted_lapics t o = grind arith
 
 counted_shape : (t : Bool) (o : Board) → (with_counts t o).shape ≡ o.shape
-counted_shape true o = refl
-counted_shape false o = refl
+counted_shape t o = grind arith
 
 never : (t : Bool) → (t && false) ≡ true → false ≡ true
-never true h = h
-never false h = h
+never t h1 = grind arith
 
 -- who is allowed to ask Ack is the processor of that number
 asks_ack : (caller : Caller) (shape : Shape) (n : ℕ) → is_allowed caller calls.Ack shape ≡ true → number_of caller ≡ n → is_processor n caller ≡ true
-asks_ack (Device d) shape n allowed is = absurd (true≢false (sym (never (nat_lt d 64) allowed)))
-asks_ack (Cpu m) shape n allowed is = grind (is, arith)
+asks_ack caller shape n h1 h2 = grind arith
 
 passes_own : (b : Board) (e : Entry) (c : Board) → Fine b.shape.cpus b.lapics → Step b e c → Passes b.shape b e
 passes_own b e c fine step = from (subst (LosesNone b e) (sym (counted_lapics (would_publish b e.call) (after_plan b e))) (loses_none b e fine))
@@ -112,9 +93,9 @@ passes_own b e c fine step = from (subst (LosesNone b e) (sym (counted_lapics (w
             ∙ told e.reply (steps_are_followed b e c step).replied)
 
 -- a board of this shape with all its local APICs
-record Stands (shape : Shape) (b : Board) : Type 0 where
-  same : b.shape ≡ shape
-  fine : Fine shape.cpus b.lapics
+pub record Stands (shape : Shape) (b : Board) : Type 0 where
+  pub same : b.shape ≡ shape
+  pub fine : Fine shape.cpus b.lapics
 
 passes : (shape : Shape) (b : Board) (e : Entry) (c : Board) → Stands shape b → Step b e c → Passes shape b e
 passes shape b e c stands step = subst (λ (s : Shape). Fine s.cpus b.lapics → Passes s b e) stands.same (λ fine. passes_own b e c fine step) stands.fine
@@ -138,7 +119,7 @@ stays shape b (e ∷ es) more c stands (next, step, later) n message h =
         of_later (inr taken) = inr (or_later (takes n message e) (list_any (takes n message) es) taken)
     of_entry on (inr taken) = inr (ap (λ t. t || list_any (takes n message) es) taken)
 
-step_stands : (shape : Shape) (b : Board) (e : Entry) (c : Board) → Step b e c → Stands shape b → Stands shape c
+pub step_stands : (shape : Shape) (b : Board) (e : Entry) (c : Board) → Step b e c → Stands shape b → Stands shape c
 step_stands shape b e c step stands = let p = passes shape b e c stands step in subst (Stands shape) (next_is b e c step) (record { same = p.same; fine = p.fine })
 
 sendings_stand : (shape : Shape) (p : Point) → IsLegal shape p → SendingsStand shape p

@@ -1,24 +1,14 @@
 -- Plans that lose no request, and whose sendings leave one at each processor that they reach.
-use Rattle.std.proofs.Common.{◌≡◌, ℕ, ◌≤◌, zero, suc, Bool, true, false, not, ◌||◌, All, nat_eq, nat_lt, if◌then◌else◌, ◌⊎◌, inl, inr, true≢false, List, [], ◌∷◌, ◌++◌, map, length, refl, sym, ap, subst, ◌∙◌, arith}
-use Rattle.std.specs.Prelude.{slice_get, slice_set, unwrap_or}
-use Rattle.std.specs.FinSet as set
-use Rattle.std.proofs.lemmas.List.Elements.{All-nil, All-append}
-use Rattle.irq_bits.specs.Members.{Numbers}
-use Rattle.irq_bits.specs.SetLemmas.{contains-insert_number}
-use Rattle.irq_base.specs.declared.message.Message.{Message}
-use Rattle.irq_base.specs.declared.shape.Part.{Part}
-use Rattle.irq_base.specs.declared.shape.Part.TheVariants.{Registry, Counters, Tick, Pic, Ioapic, Lapic}
-use Rattle.lapic.specs.Registers.{LocalApic, power_on, is_enabled}
-use Rattle.lapic.specs.Messages.{is_nmi, accepted, with_error, with_request}
-use Rattle.board_model.specs.Board.{ValueOf, Board, part_of, with_part}
-use Rattle.board_model.specs.Plan.{Plan, done, look, put, tell, answer, choose, ◌>>=◌, ◌>>◌}
-use Rattle.board_model.specs.Run.{Sending, Wishes, next_wish, later_wishes, run}
-use Rattle.board_model.specs.Following.{reached}
+use Rattle.board_step.proofs.Basics.set
+use Rattle.board_step.proofs.Basics.{◌≡◌, ℕ, ◌≤◌, zero, suc, Bool, true, false, not, ◌||◌, All, nat_eq, nat_lt, if◌then◌else◌, ◌⊎◌, inl, inr, List, [], ◌∷◌, ◌++◌, map, length, refl, sym, ap, subst, ◌∙◌, arith, slice_get, slice_set, unwrap_or, All-nil, All-append}
+use Rattle.board_step.proofs.Types.{Numbers, contains-insert_number, Message, Part, Lapic}
+use Rattle.board_step.proofs.Chips.{LocalApic, power_on, is_enabled, is_nmi, accepted, with_error, with_request}
+use Rattle.board_step.proofs.Plans.{ValueOf, Board, part_of, with_part, Plan, done, look, put, tell, answer, choose, ◌>>=◌, Sending, Wishes, next_wish, later_wishes, run, reached}
+use Rattle.board_step.proofs.Calls.{Processor, does_hear, MayReach, see_each, is_illegal, processors_on, named_on}
 use Rattle.board_model.proofs.Lens.{part_of-with_other, lapics-with}
 use Rattle.board_model.proofs.Sequence.{run-bind}
-use Rattle.board_raise.specs.Named.{does_hear, MayReach}
-use Rattle.board_raise.specs.Send.{is_illegal}
-use Rattle.board_raise.specs.Laws.{named_on}
+use Rattle.board_raise.proofs.SendExactly.{seen_each, after_seen}
+use Rattle.board_step.proofs.Walk.{Walk}
 use Rattle.board_laws.specs.Pending.{sendings_of}
 
 -- ---- requests of one local APIC
@@ -35,8 +25,7 @@ pub same_requests : (a c : LocalApic) → c.irr ≡ a.irr → c.nmi ≡ a.nmi �
 same_requests a c irr nmi message h = ap (λ t. if is_nmi message.mode then t else set.contains c.irr message.vector) nmi ∙ ap (λ (s : Numbers). if is_nmi message.mode then a.nmi else set.contains s message.vector) irr ∙ h
 
 pub or_later : (a b : Bool) → b ≡ true → (a || b) ≡ true
-or_later true b h = refl
-or_later false b h = h
+or_later a b h1 = grind arith
 
 -- a message takes no request away
 pub accepted_keeps : (a : LocalApic) (m : Message) → KeepsRequests a (accepted a m)
@@ -49,8 +38,7 @@ accepted_keeps a m message h = elim (is_nmi m.mode) as (λ t. has (if t then rec
 ]
   where
     of_nmi : (t : Bool) → (if t then a.nmi else set.contains a.irr message.vector) ≡ true → (if t then true else set.contains a.irr message.vector) ≡ true
-    of_nmi true h = refl
-    of_nmi false h = h
+    of_nmi t h1 = grind arith
 
     of_request : (t : Bool) → (if t then a.nmi else set.contains a.irr message.vector) ≡ true → (if t then a.nmi else set.contains (set.insert a.irr m.vector) message.vector) ≡ true
     of_request true h = h
@@ -107,6 +95,14 @@ sendings-bind f (put p v rest) b ws = sendings-bind f rest (with_part b p v) ws
 sendings-bind f (tell x rest) b ws = sendings-bind f rest b ws
 sendings-bind f (answer x rest) b ws = sendings-bind f rest b ws
 sendings-bind f (choose m about g k) b ws = ap (λ l. (b, record { heading = m; sent = g (next_wish ws) }) ∷ l) (sendings-bind f (k (g (next_wish ws))) b (later_wishes ws))
+
+-- to look at processors sends nothing
+none_seen : (b : Board) (ns : List ℕ) (ws : Wishes) → sendings_of (see_each ns) b ws ≡ []
+none_seen b [] ws = refl
+none_seen b (n ∷ ns) ws = sendings-bind (λ rest. done (record { number = n; apic = part_of b (Lapic n) } ∷ rest)) (see_each ns) b ws ∙ ap (λ l. l ++ []) (none_seen b ns ws)
+
+pub seen_sendings : {A : Type 0} (f : List Processor → Plan A) (b : Board) (ns : List ℕ) (ws : Wishes) → sendings_of (see_each ns >>= f) b ws ≡ sendings_of (f (processors_on b ns)) b ws
+seen_sendings f b ns ws = grind (arith, sendings-bind, none_seen, seen_each)
 
 -- they are those that its log shows
 pub logged : {A : Type 0} (m : Plan A) (b : Board) (ws : Wishes) → map (λ (x : Board × Sending). x.1) (sendings_of m b ws) ≡ (run m b ws).log.sendings
@@ -165,44 +161,31 @@ module _ (cpus : ℕ) where
   abbrev pub Safe : {A : Type 0} → Plan A → Type 0
   Safe m = (b : Board) (ws : Wishes) → Fine cpus b.lapics → GoodRun m b ws
 
-  pub safe_done : {A : Type 0} (a : A) → Safe (done a)
-  safe_done a = λ b ws fine. quiet b.lapics fine
+  -- what may be written: a local APIC that keeps its number and its requests, and every other part
+  abbrev pub Spares : Board → (p : Part) → ValueOf p → Type 0
+  Spares b (Lapic n) v = (v.number ≡ n) × KeepsRequests (part_of b (Lapic n)) v
+  Spares b _ v = Unit {0}
 
-  pub safe_end : Safe {A = Unit {0}} (done tt)
-  safe_end = λ b ws fine. quiet b.lapics fine
-
-  -- whether a part is a local APIC
-  abbrev pub is_lapic : Part → Bool
-  is_lapic (Lapic n) = true
-  is_lapic p = false
-
-  -- a write of another part
-  pub safe_put : {A : Type 0} (p : Part) (v : ValueOf p) (rest : Plan A) → is_lapic p ≡ false → Safe rest → Safe (put p v rest)
-  safe_put Registry v rest other h = λ b ws fine. h (with_part b Registry v) ws fine
-  safe_put Counters v rest other h = λ b ws fine. h (with_part b Counters v) ws fine
-  safe_put Tick v rest other h = λ b ws fine. h (with_part b Tick v) ws fine
-  safe_put Pic v rest other h = λ b ws fine. h (with_part b Pic v) ws fine
-  safe_put Ioapic v rest other h = λ b ws fine. h (with_part b Ioapic v) ws fine
-  safe_put (Lapic n) v rest other h = absurd (true≢false other)
-
-  -- a local APIC that keeps its requests is written
-  pub put_then : {A : Type 0} (b : Board) (ws : Wishes) (n : ℕ) (v : LocalApic) (rest : Plan A) → Fine cpus b.lapics → v.number ≡ n → KeepsRequests (part_of b (Lapic n)) v → GoodRun rest (with_part b (Lapic n) v) ws → GoodRun (put (Lapic n) v rest) b ws
-  put_then b ws n v rest fine number keeps h = and_then b.lapics (with_part b (Lapic n) v).lapics (run rest (with_part b (Lapic n) v) ws).board.lapics [] (sendings_of rest (with_part b (Lapic n) v) ws) (put_good b n v fine number keeps) h
+  pub safe_put : {A : Type 0} (p : Part) (v : ValueOf p) (rest : Plan A) (b : Board) (ws : Wishes) → Fine cpus b.lapics → Spares b p v → (Fine cpus (with_part b p v).lapics → GoodRun rest (with_part b p v) ws) → GoodRun (put p v rest) b ws
+  safe_put (Lapic n) v rest b ws fine may next = and_then b.lapics (with_part b (Lapic n) v).lapics (run rest (with_part b (Lapic n) v) ws).board.lapics [] (sendings_of rest (with_part b (Lapic n) v) ws) (put_good b n v fine may.0 may.1) (next (put_fine b n v fine may.0))
+  safe_put _ v rest b ws fine may next = next fine
 
   -- a run that is another one
   pub same_run : (before : List LocalApic) {xs ys : List LocalApic} {k l : List (Board × Sending)} → xs ≡ ys → k ≡ l → Good before ys l → Good before xs k
   same_run before apics made g = subst (λ (x : List LocalApic × List (Board × Sending)). Good before x.0 x.1) (λ i. (sym apics i, sym made i)) g
 
-  pub safe_bind : {A B : Type 0} (f : A → Plan B) (m : Plan A) → Safe m → ((a : A) → Safe (f a)) → Safe (m >>= f)
-  safe_bind f m h later = λ b ws fine.
-      let o = run m b ws in
-      let first = h b ws fine in
-      same_run b.lapics (ap (λ r. r.board.lapics) (run-bind f m b ws)) (sendings-bind f m b ws)
-      (and_then b.lapics o.board.lapics (run (f o.value) o.board o.wishes).board.lapics (sendings_of m b ws) (sendings_of (f o.value) o.board o.wishes) first (later o.value o.board o.wishes first.stands))
-
-  pub safe_then : {A B : Type 0} (m : Plan A) (n : Plan B) → Safe m → Safe n → Safe (m >> n)
-  safe_then m n h later = safe_bind (λ _. n) m h (λ _. later)
-
-  pub safe_if : {A : Type 0} (t : Bool) (m n : Plan A) → Safe m → Safe n → Safe (if t then m else n)
-  safe_if true m n h k = h
-  safe_if false m n h k = k
+  -- so plans are safe whose parts are
+  abbrev pub safe : Walk
+  safe = record {
+    At = λ m b ws. GoodRun m b ws;
+    Fit = λ b. Fine cpus b.lapics;
+    May = Spares;
+    ends = λ a b ws fine. quiet b.lapics fine;
+    looks = λ p k b ws h. h;
+    puts = safe_put;
+    binds = λ f m b ws fine h later.
+        let o = run m b ws in
+        same_run b.lapics (ap (λ r. r.board.lapics) (run-bind f m b ws)) (sendings-bind f m b ws)
+        (and_then b.lapics o.board.lapics (run (f o.value) o.board o.wishes).board.lapics (sendings_of m b ws) (sendings_of (f o.value) o.board o.wishes) h (later o.value o.board o.wishes h.stands));
+    sees = λ f ns b ws h. same_run b.lapics (ap (λ o. o.board.lapics) (after_seen f b ns ws)) (seen_sendings f b ns ws) h;
+  }

@@ -1,30 +1,19 @@
 -- A sending loses no request, reaches a set that it may reach, and leaves its request at each processor of it.
-use Rattle.std.proofs.Common.{◌≡◌, ℕ, ◌<◌, ◌≤◌, zero, suc, Bool, true, false, All, cond, ◌+◌, not, nat_eq, nat_lt, if◌then◌else◌, ◌⊎◌, inl, inr, filter, List, [], ◌∷◌, ◌++◌, map, length, refl, sym, ap, subst, ◌∙◌, arith, length-append}
-use Rattle.std.specs.declared.option.Option.{Option}
-use Rattle.std.specs.FinSet as set
-use Rattle.std.proofs.lemmas.List.Elements.{All-nil, All-cons, filter-append}
-use Rattle.irq_bits.specs.Members.{Numbers}
-use Rattle.irq_base.specs.declared.message.Message.{Message}
-use Rattle.irq_base.specs.declared.shape.Part.TheVariants.{Lapic}
-use Rattle.irq_base.specs.declared.status.Cause.{Cause}
-use Rattle.irq_base.specs.declared.status.Cause.TheVariants.{NoProcessor, BadVector, Mode as BadMode}
-use Rattle.lapic.specs.declared.outcome.Shorthand.{Shorthand}
-use Rattle.lapic.specs.Registers.{LocalApic}
-use Rattle.lapic.specs.Messages.{is_taken, accepted}
-use Rattle.board_model.specs.Board.{Board, part_of, with_part}
-use Rattle.board_model.specs.Statuses.{Sent, TargetAnswer, message_answer}
-use Rattle.board_model.specs.Plan.{About, injected, resent, ipi, the_reply, Plan, done, put, ◌>>=◌, ◌>>◌}
-use Rattle.board_model.specs.Run.{Sending, Wishes, next_wish, later_wishes, run}
-use Rattle.board_model.specs.Following.{reached}
+use Rattle.board_step.proofs.Basics.set
+use Rattle.board_step.proofs.Basics.{◌≡◌, ℕ, ◌<◌, ◌≤◌, zero, suc, Bool, true, false, All, cond, ◌+◌, not, nat_eq, nat_lt, if◌then◌else◌, ◌⊎◌, inl, inr, filter, List, [], ◌∷◌, ◌++◌, map, length, refl, sym, ap, subst, ◌∙◌, arith, length-append, Option, All-nil}
+use Rattle.board_step.proofs.Types.{Numbers, Message, Lapic, Cause, NoProcessor, BadVector, BadMode, Shorthand}
+use Rattle.board_step.proofs.Chips.{LocalApic, is_taken, accepted}
+use Rattle.board_step.proofs.Plans.{Board, part_of, with_part, Sent, TargetAnswer, message_answer, About, injected, resent, ipi, the_reply, Plan, done, put, ◌>>=◌, ◌>>◌, Sending, Wishes, next_wish, later_wishes, run, reached}
+use Rattle.board_step.proofs.Calls.{Processor, does_hear, named_by, chosen_of, numbers_of, MayReach, show, ignore, numbers_below, only, reached_by, see_each, is_illegal, parted, accept_each, deliver, refuse_vector, send_to, send, processors_on, named_on, IsSending}
+use Rattle.std.proofs.lemmas.List.Elements.{All-cons, filter-append}
 use Rattle.board_model.proofs.Staying.{frame_stays}
-use Rattle.board_raise.specs.Named.{Processor, is_addressed, does_hear, is_named, named_by, chosen_of, numbers_of, MayReach}
-use Rattle.board_raise.specs.Send.{show, ignore, numbers_below, only, reached_by, see_each, is_illegal, parted, accept_each, deliver, refuse_vector, send_to, send}
-use Rattle.board_raise.specs.Laws.{processors_on, named_on, IsSending}
+use Rattle.board_raise.specs.Named.{is_addressed, is_named}
 use Rattle.board_raise.proofs.Each.{Each, both_hold, each_passing, each_chosen, each_weaker, told_of}
-use Rattle.board_raise.proofs.SendExactly.{seen_each, after_seen, of_reached, all_reached, wishes_reach_exactly}
+use Rattle.board_raise.proofs.SendExactly.{after_seen, of_reached, all_reached, wishes_reach_exactly}
 use Rattle.board_laws.specs.Pending.{sendings_of}
 use Rattle.board_step.proofs.SoundSends.{accepted_number}
-use Rattle.board_laws.proofs.PendingPlans.{logged, sendings-bind, has, KeepsRequests, accepted_keeps, accepted_has, at, Fine, after_put, put_fine, IsMade, quiet, GoodRun, Safe, put_then, same_run}
+use Rattle.board_step.proofs.WalkSignals.{Shows, ignored}
+use Rattle.board_laws.proofs.PendingPlans.{logged, has, KeepsRequests, accepted_keeps, accepted_has, at, Fine, after_put, IsMade, quiet, GoodRun, Safe, safe_put, same_run, safe, seen_sendings}
 
 first_of_one : {X : Type 0} (x y : X) → x ∷ [] ≡ y ∷ [] → x ≡ y
 first_of_one x y e = cc
@@ -51,14 +40,7 @@ module _ (b : Board) (p : Processor → Bool) where
       (subst (λ (n : ℕ). 0 < n) (sym (length-append (filter p (processors_on b (numbers_below c))) (filter p (processors_on b (c ∷ []))))) (from (λ less. names_one k c less passes) (nat_eq k c) refl))
     where
       from : (k < c → Names (numbers_below c)) → (t : Bool) → nat_eq k c ≡ t → 0 < length (filter p (processors_on b (numbers_below c))) + length (filter p (processors_on b (c ∷ [])))
-      from earlier true is =
-          let same : k ≡ c = grind (is, arith) in
-          let one : length (filter p (processors_on b (c ∷ []))) ≡ 1 = ap (λ t. length (cond t (on c ∷ []) [])) (subst (λ (n : ℕ). p (on n) ≡ true) same passes) in
-          omega (one, arith)
-      from earlier false other =
-          let less : k < c = grind (below, other, arith) in
-          let some : Names (numbers_below c) = earlier less in
-          omega (some, arith)
+      from h1 t h2 = grind arith
 
   names_alone : (d cpus : ℕ) → Names (only d cpus) → Names (numbers_below cpus)
   names_alone d cpus = elim (nat_lt d cpus) as (λ t. nat_lt d cpus ≡ t → Names (if t then d ∷ [] else []) → Names (numbers_below cpus)) [
@@ -76,31 +58,17 @@ unfolding Each
 as_seen b [] = tt
 as_seen b (n ∷ ns) = (refl, as_seen b ns)
 
--- to look at processors sends nothing
-none_seen : (b : Board) (ns : List ℕ) (ws : Wishes) → sendings_of (see_each ns) b ws ≡ []
-none_seen b [] ws = refl
-none_seen b (n ∷ ns) ws = sendings-bind (λ rest. done (record { number = n; apic = part_of b (Lapic n) } ∷ rest)) (see_each ns) b ws ∙ ap (λ l. l ++ []) (none_seen b ns ws)
-
-seen_sendings : {A : Type 0} (f : List Processor → Plan A) (b : Board) (ns : List ℕ) (ws : Wishes) → sendings_of (see_each ns >>= f) b ws ≡ sendings_of (f (processors_on b ns)) b ws
-seen_sendings f b ns ws =
-    sendings-bind f (see_each ns) b ws
-    ∙ ap (λ l. l ++ sendings_of (f (run (see_each ns) b ws).value) (run (see_each ns) b ws).board (run (see_each ns) b ws).wishes) (none_seen b ns ws)
-    ∙ ap (λ o. sendings_of (f o.value) o.board o.wishes) (seen_each b ns ws)
-
 -- ---- a sending
 
 module _ (cpus : ℕ) where
-  pub show_safe : (about : About) (other : Option TargetAnswer) → Safe cpus (show about other)
+  show_safe : (about : About) (other : Option TargetAnswer) → Safe cpus (show about other)
   show_safe (injected gsi pic) other = λ b ws fine. quiet cpus b.lapics fine
   show_safe (resent pin) other = λ b ws fine. quiet cpus b.lapics fine
   show_safe ipi other = λ b ws fine. quiet cpus b.lapics fine
   show_safe (the_reply pic) other = λ b ws fine. quiet cpus b.lapics fine
 
   ignore_safe : (about : About) (cause : Cause) → Safe cpus (ignore about cause)
-  ignore_safe (injected gsi pic) cause = λ b ws fine. quiet cpus b.lapics fine
-  ignore_safe (resent pin) cause = λ b ws fine. quiet cpus b.lapics fine
-  ignore_safe ipi cause = λ b ws fine. quiet cpus b.lapics fine
-  ignore_safe (the_reply pic) cause = λ b ws fine. quiet cpus b.lapics fine
+  ignore_safe about cause = ignored (safe cpus) about (show_safe about) cause
 
   module _ (message : Message) (takers : Numbers) (b : Board) (numbers : (n : ℕ) → (part_of b (Lapic n)).number ≡ n) where
     -- a local APIC is as it was, or has accepted the message
@@ -117,17 +85,14 @@ module _ (cpus : ℕ) where
         let v = accepted (part_of b (Lapic n)) message in
         let number : v.number ≡ n = accepted_number (part_of b (Lapic n)) message ∙ numbers n in
         elim (set.contains takers n) as (λ t. GoodRun cpus ((if t then put (Lapic n) (accepted (part_of b (Lapic n)) message) (accept_each message takers (processors_on b ns)) else accept_each message takers (processors_on b ns)) >> rest) c ws) [
-          | true ↦ put_then cpus c ws n v (accept_each message takers (processors_on b ns) >> rest) fine number (keeps_either n (part_of c (Lapic n)) (each n))
-              (accept_good rest h ns (with_part c (Lapic n) v) ws (put_fine cpus c n v fine number) (after_put MayAccept c n v (inr refl) each))
+          | true ↦ safe_put cpus (Lapic n) v (accept_each message takers (processors_on b ns) >> rest) c ws fine (number, keeps_either n (part_of c (Lapic n)) (each n))
+              (λ fits. accept_good rest h ns (with_part c (Lapic n) v) ws fits (after_put MayAccept c n v (inr refl) each))
           | false ↦ accept_good rest h ns c ws fine each
         ]
 
     none_made : {A : Type 0} (a : A) (ns : List ℕ) (c : Board) (ws : Wishes) → sendings_of (accept_each message takers (processors_on b ns) >> done a) c ws ≡ []
     none_made a [] c ws = refl
-    none_made a (n ∷ ns) c ws = elim (set.contains takers n) as (λ t. sendings_of ((if t then put (Lapic n) (accepted (part_of b (Lapic n)) message) (accept_each message takers (processors_on b ns)) else accept_each message takers (processors_on b ns)) >> done a) c ws ≡ []) [
-      | true ↦ none_made a ns (with_part c (Lapic n) (accepted (part_of b (Lapic n)) message)) ws
-      | false ↦ none_made a ns c ws
-    ]
+    none_made a (n ∷ ns) c ws = grind (arith, none_made a ns, none_made a ns c ws)
 
   module _ (message : Message) (from : Option (ℕ × Shorthand)) (about : About) (b : Board) (ws : Wishes) (fine : Fine cpus b.lapics) where
     abbrev ns : List ℕ
@@ -234,5 +199,5 @@ module _ (cpus : ℕ) where
         of_mode true taken = of_named (named_by message from seen) refl taken
         of_mode false taken = subst (λ (t : Bool). GoodRun cpus (if not t then ignore about BadMode else (see_each ns >>= f)) b ws) (sym taken) (ignore_safe about BadMode b ws fine)
 
-  pub send_safe : (message : Message) (from : Option (ℕ × Shorthand)) (about : About) → Safe cpus (send cpus message from about)
-  send_safe message from about = λ b ws fine. good_send message from about b ws fine
+  pub shows : (about : About) → Shows (safe cpus) cpus about
+  shows about = record { shown = show_safe about; sends = λ message from b ws fine. good_send message from about b ws fine }

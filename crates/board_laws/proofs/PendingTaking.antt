@@ -1,25 +1,11 @@
 -- Ack takes that request which its reply tells, and loses no other.
-use Rattle.std.proofs.Common.{◌≡◌, ℕ, Bool, true, false, not, ◌&&◌, All, nat_eq, if◌then◌else◌, ◌⊎◌, inl, inr, List, [], ◌∷◌, refl, sym, ap, ◌∙◌, arith, Some, None}
-use Rattle.std.specs.declared.option.Option.{Option}
-use Rattle.std.specs.FinSet as set
-use Rattle.std.specs.FinSet.{contains-remove}
-use Rattle.std.specs.Cmp.{nat_cmp_total, unsigned_tied}
-use Rattle.std.proofs.lemmas.List.Elements.{All-nil}
-use Rattle.irq_base.specs.declared.message.Message.{Message}
-use Rattle.irq_base.specs.declared.reply.Reply.{Reply}
-use Rattle.irq_base.specs.declared.reply.Reply.TheVariants.{Extint, Nmi}
-use Rattle.irq_base.specs.declared.shape.Part.TheVariants.{Lapic}
-use Rattle.irq_base.specs.declared.shape.Shape.{Shape}
-use Rattle.pic_8259a.specs.Pair.{has_output, cycle}
-use Rattle.lapic.specs.Registers.{LocalApic}
-use Rattle.lapic.specs.Messages.{is_nmi}
-use Rattle.lapic.specs.Priority.{giveable_of, given}
-use Rattle.board_model.specs.Routing.{Routing}
-use Rattle.board_model.specs.Board.{Board, part_of, with_part}
-use Rattle.board_model.specs.Chips.{pair_of}
-use Rattle.board_model.specs.Plan.{Plan}
-use Rattle.board_model.specs.Run.{Sending, Wishes, run}
-use Rattle.board_calls.specs.Processors.{cycle_made, given_reply, give, hears_pair, give_of_pair, take_nmi, next_interrupt}
+use Rattle.board_step.proofs.Basics.set
+use Rattle.board_step.proofs.Basics.{◌≡◌, ℕ, Bool, true, false, not, ◌&&◌, All, nat_eq, if◌then◌else◌, ◌⊎◌, inl, inr, List, [], ◌∷◌, refl, ap, ◌∙◌, arith, Some, None, Option, contains-remove, nat_cmp_total, All-nil}
+use Rattle.board_step.proofs.Types.{Message, Reply, Extint, Nmi, Lapic, Shape}
+use Rattle.board_step.proofs.Chips.{has_output, cycle, LocalApic, is_nmi, giveable_of, given}
+use Rattle.board_step.proofs.Plans.{Routing, Board, part_of, with_part, pair_of, Plan, Sending, Wishes, run}
+use Rattle.board_step.proofs.Calls.{cycle_made, given_reply, give, hears_pair, give_of_pair, take_nmi, next_interrupt}
+use Rattle.std.specs.Cmp.{unsigned_tied}
 use Rattle.board_laws.specs.Pending.{sendings_of, takes_by}
 use Rattle.board_calls.proofs.Numbers.{given_number}
 use Rattle.board_laws.proofs.PendingPlans.{has, at, Fine, after_put, put_fine, IsMade, Good}
@@ -76,8 +62,7 @@ module _ (cpus : ℕ) where
       same q e = cc
 
       told : (message : Message) → IsLeft v r message → (has v message ≡ true) ⊎ ((n ≡ n) × ((q : Reply) → r ∷ [] ≡ q ∷ [] → takes_by message q ≡ true))
-      told message (inl h) = inl h
-      told message (inr t) = inr (refl, λ q e. ap (takes_by message) (sym (same q e)) ∙ t)
+      told message h1 = grind arith
 
 module _ (routing : Routing) (shape : Shape) where
   abbrev cpus : ℕ
@@ -96,7 +81,7 @@ module _ (routing : Routing) (shape : Shape) where
         | true ↦ put_taking cpus n b (record apic { nmi = false }) Nmi fine (fine.numbers n) (nmi_leaves apic)
         | false ↦ elim (hears_pair n apic) as (λ t. TakingRun cpus n (if t then give_of_pair routing shape n apic else give n apic) b ws) [
           | true ↦ elim (has_output (pair_of b.pic)) as (λ t. TakingRun cpus n (if t then made else give n apic) b ws) [
-            | true ↦ takes_none cpus n b.lapics (run made b ws).board.lapics (sendings_of made b ws) (run made b ws).log.answers (cycle_safe routing shape b.pic (cycle (pair_of b.pic)) (Extint (cycle (pair_of b.pic)).vector) b ws fine)
+            | true ↦ takes_none cpus n b.lapics (run made b ws).board.lapics (sendings_of made b ws) (run made b ws).log.answers (cycle_safe routing shape (Extint (cycle (pair_of b.pic)).vector) refl b ws fine)
             | false ↦ give_taking n b ws fine
           ]
           | false ↦ give_taking n b ws fine

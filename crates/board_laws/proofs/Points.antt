@@ -1,8 +1,7 @@
 -- A legal history at a point: it parts there, its entry is a step, and what steps keep holds there.
-use Rattle.std.proofs.Common.{◌≡◌, List, [], ◌∷◌, ◌++◌, refl, sym, subst}
-use Rattle.irq_base.specs.declared.lists.Entry.{Entry}
-use Rattle.irq_base.specs.declared.shape.Shape.{Shape}
-use Rattle.board_model.specs.Board.{Board}
+use Rattle.board_step.proofs.Basics.{◌≡◌, List, [], ◌∷◌, ◌++◌, refl, sym, subst}
+use Rattle.board_step.proofs.Types.{Entry, Shape}
+use Rattle.board_step.proofs.Plans.{Board}
 use Rattle.board_step.specs.Step.{Step}
 use Rattle.board_step.specs.History.{opening, Leads, Legal, next_board, board_after}
 use Rattle.board_step.proofs.Following.{next_is}

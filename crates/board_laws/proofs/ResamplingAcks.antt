@@ -1,30 +1,16 @@
 -- What plans leave whose acknowledges resample: the counts that their events tell, and no pin more for Resample.
-use Rattle.std.proofs.Common.{◌≡◌, ℕ, Bool, true, false, cond, List, [], ◌∷◌, ◌++◌, map, Some, None, refl, sym, ap, subst, ◌∙◌, append_assoc}
-use Rattle.std.specs.declared.option.Option.{Option}
-use Rattle.std.specs.Cmp.{unsigned_Decides}
+use Rattle.board_step.proofs.Basics.set
+use Rattle.board_step.proofs.Basics.{◌≡◌, ℕ, Bool, true, false, cond, List, [], ◌∷◌, ◌++◌, map, Some, None, refl, sym, ap, subst, ◌∙◌, append_assoc, Option, unsigned_Decides}
+use Rattle.board_step.proofs.Types.pins
+use Rattle.board_step.proofs.Types.parts
+use Rattle.board_step.proofs.Types.{signalled, signalled_all, Event, Acked, Resampled, Watched, Pin, Resample}
+use Rattle.board_step.proofs.Chips.{Holds, hold, has_resampler, resample_events, Table, targets_of, has_pin, gsi_of}
+use Rattle.board_step.proofs.Plans.{RegistryPart, Board, with_part, Plan, ◌>>◌, Wishes, Outcome, then_run, run}
+use Rattle.board_step.proofs.Calls.{let_go_pic, let_go_ioapic, say_each, signal_each}
 use Rattle.std.specs.FinMap as fin_map
-use Rattle.std.specs.FinSet as set
 use Rattle.std.specs.List.{find}
 use Rattle.std.proofs.lemmas.List.Sums.{fold-append}
-use Rattle.irq_base.specs.Counts.{signalled}
-use Rattle.irq_base.specs.declared.event.Event.{Event}
-use Rattle.irq_base.specs.declared.event.Event.TheVariants.{Acked, Resampled, Watched, Rang, Injected, Resent, Ipi}
-use Rattle.irq_base.specs.declared.event.Pin.{Pin}
-use Rattle.irq_base.specs.declared.event.Pin.TheVariants as pins
-use Rattle.irq_base.specs.declared.message.Source.TheVariants.{Resample}
-use Rattle.irq_base.specs.declared.shape.Part.TheVariants as parts
-use Rattle.source_levels.specs.Holds.{Holds, hold}
-use Rattle.irq_base.specs.Counts.{signalled_all}
-use Rattle.irqfd_set.specs.Rows.{has_resampler}
-use Rattle.resampler.specs.Resample.{resample_events}
-use Rattle.route_table.specs.Rows.{Table, is_same, targets_of}
-use Rattle.route_table.specs.Pins.{has_pin, gsi_of}
-use Rattle.board_model.specs.Registry.{RegistryPart}
-use Rattle.board_model.specs.Board.{Board, with_part}
-use Rattle.board_model.specs.Plan.{Plan, ◌>>◌}
-use Rattle.board_model.specs.Run.{Wishes, Outcome, then_run, run}
-use Rattle.board_raise.specs.Signal.{let_go_pic, let_go_ioapic}
-use Rattle.board_ack.specs.Acknowledge.{say_each, signal_each}
+use Rattle.route_table.specs.Rows.{is_same}
 use Rattle.board_laws.specs.Resampling.{counter_told, counters_told, IsReleased}
 use Rattle.board_step.proofs.Walk.{Holds as HoldsOf}
 use Rattle.board_laws.proofs.ResamplingPlans.{gone, NoMore, no_more, AreQuiet, Leaves, left}
@@ -96,13 +82,7 @@ module _ (r : RegistryPart) where
 
     followed_later : (x : Event) (xs ys : List Event) → Followed mid x xs → Followed last x (xs ++ ys)
     followed_later (Acked pin (Some gsi)) xs ys h = λ on. resamples_later gsi xs ys (h on)
-    followed_later (Acked pin None) xs ys h = tt
-    followed_later (Resampled counter) xs ys h = tt
-    followed_later (Watched counter) xs ys h = tt
-    followed_later (Rang counter) xs ys h = tt
-    followed_later (Injected gsi status) xs ys h = tt
-    followed_later (Resent pin status) xs ys h = tt
-    followed_later (Ipi status) xs ys h = tt
+    followed_later _ xs ys h = tt
 
     follow_both : (xs ys : List Event) → Follows mid xs → Follows last ys → Follows last (xs ++ ys)
     follow_both [] ys one two = two
@@ -131,20 +111,12 @@ module _ (r : RegistryPart) where
   quiet_told (Acked pin gsi ∷ events) quiet = cc
   quiet_told (Resampled counter ∷ events) quiet = let never : false ≡ true = quiet.0 in cc
   quiet_told (Watched counter ∷ events) quiet = let never : false ≡ true = quiet.0 in cc
-  quiet_told (Rang counter ∷ events) quiet = quiet_told events quiet.1
-  quiet_told (Injected gsi status ∷ events) quiet = quiet_told events quiet.1
-  quiet_told (Resent pin status ∷ events) quiet = quiet_told events quiet.1
-  quiet_told (Ipi status ∷ events) quiet = quiet_told events quiet.1
+  quiet_told (_ ∷ events) quiet = quiet_told events quiet.1
 
   quiet_follows : (last : Board) (events : List Event) → AreQuiet events → Follows last events
   quiet_follows last [] quiet = tt
   quiet_follows last (Acked pin gsi ∷ events) quiet = let never : false ≡ true = quiet.0 in cc
-  quiet_follows last (Resampled counter ∷ events) quiet = (tt, quiet_follows last events quiet.1)
-  quiet_follows last (Watched counter ∷ events) quiet = (tt, quiet_follows last events quiet.1)
-  quiet_follows last (Rang counter ∷ events) quiet = (tt, quiet_follows last events quiet.1)
-  quiet_follows last (Injected gsi status ∷ events) quiet = (tt, quiet_follows last events quiet.1)
-  quiet_follows last (Resent pin status ∷ events) quiet = (tt, quiet_follows last events quiet.1)
-  quiet_follows last (Ipi status ∷ events) quiet = (tt, quiet_follows last events quiet.1)
+  quiet_follows last (_ ∷ events) quiet = (tt, quiet_follows last events quiet.1)
 
   pub acks_quietly : {A : Type 0} (m : Plan A) → HoldsOf (left r) m → Acks m
   acks_quietly m h = λ b ws is.

@@ -1,45 +1,25 @@
 -- What calls leave: they acknowledge as they are to, or they tell no acknowledge at all.
-use Rattle.std.proofs.Common.{◌≡◌, ℕ, ◌-◌, Bool, true, false, if◌then◌else◌, ◌⊎◌, inl, inr, is_some, Some, None, refl}
-use Rattle.std.specs.declared.option.Option.{Option}
-use Rattle.irq_base.specs.Refusals.{first_of}
-use Rattle.irq_base.specs.declared.call.Call.{Call}
-use Rattle.irq_base.specs.declared.call.Call.TheVariants as calls
-use Rattle.irq_base.specs.declared.call.Caller.{Caller}
-use Rattle.irq_base.specs.declared.call.Space.{Space}
-use Rattle.irq_base.specs.declared.call.Space.TheVariants as spaces
-use Rattle.irq_base.specs.declared.refusal.Refusal.{Refusal}
-use Rattle.irq_base.specs.declared.reply.Reply.{Reply}
-use Rattle.irq_base.specs.declared.reply.Reply.TheVariants.{Exit}
-use Rattle.irq_base.specs.declared.shape.Shape.{Shape}
-use Rattle.pic_8259a.specs.Pair.{is_port}
-use Rattle.tick_reinject.specs.Ticks.{ticked, tick_injects}
-use Rattle.ioevent_set.specs.Rows.{rung_by}
-use Rattle.board_model.specs.Registry.{RegistryPart}
-use Rattle.board_model.specs.Routing.{Routing, routing_of_registry}
-use Rattle.board_model.specs.Board.{Board}
-use Rattle.board_model.specs.Plan.{injected, the_reply, Plan, reply}
-use Rattle.board_model.specs.Run.{Wishes, run}
-use Rattle.board_calls.specs.Refusals.{range_reasons, is_ioapic_address, is_lapic_address}
-use Rattle.board_calls.specs.Registrations.{unless_refused, line_set, message_sent, source_of, write, take, inject_count, assign, deassign, reroute, attach, detach, watch, unwatch}
-use Rattle.board_calls.specs.Processors.{end_of_interrupt, inta, next_interrupt}
-use Rattle.board_calls.specs.Accesses.{pair_write, pair_read, ioapic_store, lapic_store, rung, ring, store, load}
-use Rattle.board_calls.specs.Calls.{number_of, io_row, plan_in_range, plan_of}
-use Rattle.board_laws.proofs.ResamplingPlans.{AreQuiet, quiet, quiet_open, quiet_shows}
+use Rattle.board_step.proofs.Basics.{◌≡◌, ℕ, ◌-◌, Bool, true, false, if◌then◌else◌, ◌⊎◌, inl, inr, Some, None, refl, Option}
+use Rattle.board_step.proofs.Types.calls
+use Rattle.board_step.proofs.Types.spaces
+use Rattle.board_step.proofs.Types.{first_of, Call, Caller, Space, Refusal, Reply, Exit, Shape}
+use Rattle.board_step.proofs.Chips.{is_port, ticked, tick_injects, rung_by}
+use Rattle.board_step.proofs.Plans.{RegistryPart, Routing, routing_of_registry, Board, injected, the_reply, Plan, reply, Wishes, run}
+use Rattle.board_step.proofs.Calls.{range_reasons, is_ioapic_address, is_lapic_address, unless_refused, line_set, message_sent, write, take, inject_count, assign, deassign, reroute, attach, detach, watch, unwatch, end_of_interrupt, inta, next_interrupt, pair_write, pair_read, ioapic_store, lapic_store, rung, ring, store, load, number_of, io_row, plan_in_range, plan_of, inject_tick}
+use Rattle.board_laws.proofs.ResamplingPlans.{AreQuiet, quiet, quiet_open, quiet_shows, same}
 use Rattle.board_laws.proofs.ResamplingOwed.{Pays, pays, Settles, pays_accesses}
-use Rattle.board_ack.specs.Ticks.{inject_tick}
 use Rattle.board_step.proofs.Walk.{Holds}
-use Rattle.board_step.proofs.WalkSignals.{Signals, inject_only}
+use Rattle.board_step.proofs.WalkSignals.{Signals}
 use Rattle.board_step.proofs.WalkAcks.{inject_tick_holds}
 use Rattle.board_step.proofs.WalkOpen.{open_signals, open_raise, open_rings, open_replied}
-use Rattle.board_step.proofs.WalkCalls.{is_signal, Replied, line_holds, message_holds, write_holds, take_holds, tick_or_hold_holds, assign_holds, deassign_holds, reroute_holds, attach_holds, detach_holds, watch_holds, unwatch_holds, rung_holds, ioapic_store_holds, load_holds, pair_write_holds, pair_read_holds, lapic_store_holds, next_holds, inta_holds, eoi_holds}
-use Rattle.board_laws.proofs.ResamplingPlans.{same}
+use Rattle.board_step.proofs.WalkCalls.{is_signal, Replied, line_holds, message_holds, write_holds, inject_count_holds, take_holds, tick_or_hold_holds, assign_holds, deassign_holds, reroute_holds, attach_holds, detach_holds, watch_holds, unwatch_holds, rung_holds, ioapic_store_holds, load_holds, pair_write_holds, pair_read_holds, lapic_store_holds, next_holds, inta_holds, eoi_holds}
 
 -- ---- calls without an acknowledge
 
 replies : (r : Reply) → is_signal r ≡ false → Holds quiet (reply r)
 replies r plain b ws fit = tt
 
-signals : (cpus : ℕ) → Signals quiet cpus
+signals : Signals quiet
 signals = open_signals quiet quiet_open
 
 module _ (r : RegistryPart) (shape : Shape) where
@@ -50,14 +30,13 @@ module _ (r : RegistryPart) (shape : Shape) where
   replied = open_replied quiet quiet_open routing shape replies (λ gsi b ws fit. tt) (λ pic. quiet_shows (the_reply pic))
 
   count_quiet : (gsi : ℕ) (resample : Option ℕ) (injects : Bool) → Holds quiet (inject_count routing shape gsi resample injects)
-  count_quiet gsi resample false = λ b ws fit. tt
-  count_quiet gsi resample true = inject_only quiet shape.cpus (signals shape.cpus) (routing.targets gsi) (source_of (is_some resample)) (open_raise quiet quiet_open (routing.targets gsi) (source_of (is_some resample))) (λ pic. injected gsi pic) (λ pic. quiet_shows (injected gsi pic))
+  count_quiet gsi resample = inject_count_holds quiet routing shape signals gsi resample (open_raise quiet quiet_open _ _) (λ pic. quiet_shows (injected gsi pic))
 
   fall_quiet : Holds quiet (inject_tick routing shape (λ pic. the_reply pic))
-  fall_quiet = inject_tick_holds quiet routing shape (signals shape.cpus) (open_raise quiet quiet_open _ _) (λ status b fit. tt) (λ pic. the_reply pic) (λ pic. quiet_shows (the_reply pic))
+  fall_quiet = inject_tick_holds quiet routing shape signals (open_raise quiet quiet_open _ _) (λ status b fit. tt) (λ pic. the_reply pic) (λ pic. quiet_shows (the_reply pic))
 
   rings : (counter : Option ℕ) → Holds quiet (rung routing shape counter)
-  rings = rung_holds quiet routing shape (signals shape.cpus) (open_rings quiet quiet_open routing shape replies (λ counter b ws fit. (refl, tt)) (λ gsi pic. quiet_shows (injected gsi pic))) replies
+  rings = rung_holds quiet routing shape signals (open_rings quiet quiet_open routing shape replies (λ counter b ws fit. (refl, tt)) (λ gsi pic. quiet_shows (injected gsi pic))) replies
 
   -- ---- every call
 
@@ -96,7 +75,7 @@ module _ (r : RegistryPart) (shape : Shape) where
   in_range n (calls.Write counter count) = quietly (write routing shape (routing.trigger counter) counter count) (write_holds quiet routing shape replied counter count (routing.trigger counter) refl)
   in_range n (calls.Take counter) = quietly (take counter) (take_holds quiet routing shape replies counter (λ b fit. tt))
   in_range n (calls.Assign trigger gsi resample) = quietly (assign routing shape trigger gsi resample) (assign_holds quiet routing shape replies (λ v b fit. tt) trigger gsi resample (λ counts b fit. tt) (count_quiet gsi resample))
-  in_range n (calls.Deassign trigger gsi) = quietly (deassign routing trigger gsi) (deassign_holds quiet routing shape replies (λ v b fit. tt) (signals shape.cpus) trigger gsi)
+  in_range n (calls.Deassign trigger gsi) = quietly (deassign routing trigger gsi) (deassign_holds quiet routing shape replies (λ v b fit. tt) signals trigger gsi)
   in_range n (calls.Reroute rows) = quietly (reroute rows) (reroute_holds quiet routing shape replies (λ v b fit. tt) (λ holds b fit. tt) (λ holds b fit. tt) rows)
   in_range n (calls.Attach space address len counter want) = quietly (attach (io_row space address len counter want)) (attach_holds quiet routing shape replies (λ v b fit. tt) (io_row space address len counter want))
   in_range n (calls.Detach space address len counter want) = quietly (detach (io_row space address len counter want)) (detach_holds quiet routing shape replies (λ v b fit. tt) (io_row space address len counter want))

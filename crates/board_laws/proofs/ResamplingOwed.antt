@@ -1,44 +1,17 @@
 -- What an acknowledge leaves: each resample counter of its GSI is told at once, and no other; and Resample lets its pins go.
-use Rattle.std.proofs.Common.{◌≡◌, ℕ, Bool, true, false, not, ◌&&◌, ◌||◌, nat_eq, cond, filter, if◌then◌else◌, List, [], ◌∷◌, ◌++◌, map, Some, None, refl, sym, ap, subst, ◌∙◌, append_assoc, append-nil}
-use Rattle.std.specs.Prelude.{filter_map, is_some}
-use Rattle.std.specs.declared.option.Option.{Option}
-use Rattle.std.specs.List.{cons_option}
-use Rattle.irq_base.specs.declared.event.Event.{Event}
-use Rattle.irq_base.specs.declared.event.Event.TheVariants.{Acked, Resampled, Watched, Rang, Injected, Resent, Ipi}
-use Rattle.irq_base.specs.declared.event.Pin.{Pin}
-use Rattle.irq_base.specs.declared.event.Pin.TheVariants as pins
-use Rattle.irq_base.specs.declared.message.Source.TheVariants.{Resample}
-use Rattle.irq_base.specs.declared.message.Targets.{Targets}
-use Rattle.irq_base.specs.declared.shape.Part.TheVariants as parts
-use Rattle.irq_base.specs.declared.shape.Shape.{Shape}
-use Rattle.irq_base.specs.Counts.{signalled_all}
-use Rattle.irqfd_set.specs.declared.irqfds.Irqfd.{Irqfd}
-use Rattle.irqfd_set.specs.Rows.{has_resampler}
-use Rattle.resampler.specs.Resample.{resample_of, resampled, resample_events}
-use Rattle.ack_notifiers.specs.declared.watches.Watch.{Watch}
-use Rattle.ack_notifiers.specs.Rows.{has_watch, watched, watch_events}
-use Rattle.route_table.specs.Rows.{targets_of}
-use Rattle.board_model.specs.Registry.{RegistryPart}
-use Rattle.board_model.specs.Routing.{Routing, routing_of_registry}
-use Rattle.board_model.specs.Board.{Board, with_part}
-use Rattle.board_model.specs.Plan.{About, injected, resent, Plan, done, tell, ◌>>◌}
-use Rattle.board_model.specs.Run.{Wishes, Outcome, then_run, run}
+use Rattle.board_step.proofs.Basics.{◌≡◌, ℕ, Bool, true, false, not, ◌&&◌, ◌||◌, nat_eq, cond, filter, if◌then◌else◌, List, [], ◌∷◌, ◌++◌, map, Some, None, refl, sym, ap, subst, ◌∙◌, append_assoc, append-nil, filter_map, is_some, Option, cons_option}
+use Rattle.board_step.proofs.Types.pins
+use Rattle.board_step.proofs.Types.parts
+use Rattle.board_step.proofs.Types.{Event, Acked, Resampled, Watched, Pin, Resample, Targets, Shape, signalled_all, Irqfd, Watch}
+use Rattle.board_step.proofs.Chips.{has_resampler, resample_of, resampled, resample_events, has_watch, watched, watch_events, targets_of}
+use Rattle.board_step.proofs.Plans.{RegistryPart, Routing, routing_of_registry, Board, with_part, resent, Plan, done, tell, ◌>>◌, ipi, reply, Wishes, Outcome, then_run, run}
+use Rattle.board_step.proofs.Calls.{send, let_go, resend, signal_each, resample, notify, resample_and_notify, tell_concerned, end_level, end_tick, acknowledge, acknowledge_each}
 use Rattle.board_model.proofs.Sequence.{run-bind}
-use Rattle.board_raise.specs.Send.{send}
-use Rattle.board_raise.specs.Signal.{let_go}
-use Rattle.board_ack.specs.Acknowledge.{resend, signal_each, resample, notify, resample_and_notify, tell_concerned, end_level, end_tick, acknowledge, acknowledge_each}
-use Rattle.board_laws.specs.Resampling.{signal_told, signals_told, signal_owed, signals_owed}
+use Rattle.board_laws.specs.Resampling.{signal_told, signals_told, signal_owed, signals_owed, counters_told}
 use Rattle.board_laws.proofs.ResamplingPlans.{AreQuiet, no_more, Stays, same, left, shows_left, left_signals, left_ends}
 use Rattle.board_laws.proofs.ResamplingAcks.{has_it, same_number, Resamples, Does, Acks, then_does, acks_quietly, resamples_later, Said, said, resamples_tell, watches_tell, signal_acks, LetsGo, lets_go}
-use Rattle.std.proofs.Common.{true≢false}
-use Rattle.board_model.specs.Statuses.{Sent}
-use Rattle.board_model.specs.Plan.{Heading, ipi, the_reply, reply}
-use Rattle.board_model.specs.Run.{with_log, sending, next_wish, later_wishes}
-use Rattle.board_raise.specs.Send.{show}
-use Rattle.board_raise.proofs.Manner.{in_reply}
-use Rattle.board_laws.specs.Resampling.{counters_told}
 use Rattle.board_step.proofs.Walk.{Walk, Holds as HoldsOf, of_relation, ended, after}
-use Rattle.board_step.proofs.WalkSignals.{Shows, let_go_holds}
+use Rattle.board_step.proofs.WalkSignals.{let_go_holds}
 use Rattle.board_step.proofs.WalkAcks.{resend_holds, end_tick_holds}
 use Rattle.board_step.proofs.WalkCalls.{Accesses}
 
@@ -104,10 +77,7 @@ module _ (r : RegistryPart) where
   quiet_give (Acked pin gsi ∷ events) quiet = let never : false ≡ true = quiet.0 in cc
   quiet_give (Resampled counter ∷ events) quiet = let never : false ≡ true = quiet.0 in cc
   quiet_give (Watched counter ∷ events) quiet = let never : false ≡ true = quiet.0 in cc
-  quiet_give (Rang counter ∷ events) quiet = let g = quiet_give events quiet.1 in record { told = g.told; owed = g.owed }
-  quiet_give (Injected gsi status ∷ events) quiet = let g = quiet_give events quiet.1 in record { told = g.told; owed = g.owed }
-  quiet_give (Resent pin status ∷ events) quiet = let g = quiet_give events quiet.1 in record { told = g.told; owed = g.owed }
-  quiet_give (Ipi status ∷ events) quiet = let g = quiet_give events quiet.1 in record { told = g.told; owed = g.owed }
+  quiet_give (_ ∷ events) quiet = let g = quiet_give events quiet.1 in record { told = g.told; owed = g.owed }
 
   -- ---- plans that tell what they owe
 
@@ -185,7 +155,7 @@ module _ (r : RegistryPart) where
         let o : Outcome (Unit {0}) = run (let_go targets Resample) b ws in
         let l : LetsGo r targets.pic targets.ioapic o = lets_go r targets.pic targets.ioapic b ws in
         let acks : Acks r next = signal_acks r (resampled r.irqfds gsi) (resample_events r.irqfds gsi) (resamples_tell r (resampled r.irqfds gsi)) in
-        let one : Does r b o = acks_quietly r (let_go targets Resample) (let_go_holds (left r) shape.cpus (left_signals r shape.cpus) targets Resample) b ws is in
+        let one : Does r b o = acks_quietly r (let_go targets Resample) (let_go_holds (left r) shape.cpus (left_signals r) targets Resample) b ws is in
         let last : Outcome (Unit {0}) = run next o.board o.wishes in
         let two : Does r o.board last = acks o.board o.wishes one.registry in
         let s : Said r (resample_events r.irqfds gsi) (with_part o.board parts.Counters (signalled_all o.board.counters (resampled r.irqfds gsi))) last = said r (resample_events r.irqfds gsi) (with_part o.board parts.Counters (signalled_all o.board.counters (resampled r.irqfds gsi))) o.wishes in
@@ -292,8 +262,8 @@ module _ (r : RegistryPart) where
     pays_accesses = record {
       acks = each_settles;
       replies = λ answer plain. settles_quietly (reply answer) (λ b ws fit. record { stays = same r refl refl refl refl fit; quiet = tt });
-      resends = λ pin message. settles_quietly (resend shape.cpus pin message) (resend_holds (left r) shape.cpus (left_signals r shape.cpus) pin (shows_left r (resent pin)) message);
-      ipis = λ message from. settles_quietly (send shape.cpus message from ipi) ((left_signals r shape.cpus).sends message from ipi (shows_left r ipi));
+      resends = λ pin message. settles_quietly (resend shape.cpus pin message) (resend_holds (left r) shape.cpus (left_signals r) pin (shows_left r (resent pin)) message);
+      ipis = λ message from. settles_quietly (send shape.cpus message from ipi) ((shows_left r ipi).sends message from);
       pairs = λ pair b fit. same r refl refl refl refl fit;
       stores = λ offset value b fit. same r refl refl refl refl fit;
       registers = λ n offset value b fit. same r refl refl refl refl fit;

@@ -1,33 +1,15 @@
 -- What plans without an acknowledge leave: their events are none of an acknowledge, and Resample holds no pin more of a choice.
-use Rattle.std.proofs.Common.{◌≡◌, ℕ, Bool, true, false, not, ◌&&◌, ◌||◌, List, [], ◌∷◌, ◌++◌, refl, sym, ap, ◌∙◌}
-use Rattle.std.specs.declared.option.Option.{Option}
-use Rattle.std.specs.Cmp.{tied_itself}
-use Rattle.std.specs.FinSet as set
-use Rattle.std.specs.FinSet.{contains-insert, contains-remove}
-use Rattle.std.specs.Ordering.{eq_by_cmp, is_eq}
-use Rattle.irq_base.specs.declared.event.Event.{Event}
-use Rattle.irq_base.specs.declared.event.Event.TheVariants.{Acked, Resampled, Watched}
-use Rattle.irq_base.specs.declared.message.Source.{Source}
-use Rattle.irq_base.specs.declared.message.Source.TheVariants.{Resample, Tick as TickSource}
-use Rattle.irq_base.specs.declared.message.Targets.{Targets}
-use Rattle.source_levels.specs.Holds.{Hold, Holds, hold, hold_cmp}
+use Rattle.board_step.proofs.Basics.set
+use Rattle.board_step.proofs.Basics.{◌≡◌, ℕ, Bool, true, false, not, ◌&&◌, ◌||◌, List, [], ◌∷◌, ◌++◌, refl, sym, ap, ◌∙◌, Option, tied_itself, contains-insert, contains-remove, eq_by_cmp, is_eq}
+use Rattle.board_step.proofs.Types.{Event, Acked, Resampled, Watched, Source, Resample, TickSource, Targets, Shape}
+use Rattle.board_step.proofs.Chips.{Hold, Holds, hold, hold_cmp}
+use Rattle.board_step.proofs.Plans.{RegistryPart, Board, with_part, Sent, TargetAnswer, About, injected, resent, ipi, the_reply, events_of, next_wish, later_wishes, Outcome, run, routing_of_registry}
+use Rattle.board_step.proofs.Calls.{show}
 use Rattle.source_levels.proofs.HoldLemmas.{hold_cmp_total, tied_same}
-use Rattle.board_model.specs.Registry.{RegistryPart}
-use Rattle.board_model.specs.Board.{Board, with_part}
-use Rattle.board_model.specs.Statuses.{Sent, TargetAnswer}
-use Rattle.board_model.specs.Plan.{About, injected, resent, ipi, the_reply, events_of}
-use Rattle.board_model.specs.Run.{next_wish, later_wishes, Outcome, run}
-use Rattle.board_raise.specs.Send.{show}
-use Rattle.std.proofs.Common.{◌++◌}
-use Rattle.board_model.specs.Plan.{events_of}
-use Rattle.board_model.specs.Run.{Outcome}
-use Rattle.board_model.specs.Registry.{RegistryPart}
-use Rattle.board_model.specs.Routing.{routing_of_registry}
-use Rattle.irq_base.specs.declared.shape.Shape.{Shape}
 use Rattle.board_step.proofs.Walk.{Walk, Holds as HoldsOf, of_relation}
-use Rattle.board_step.proofs.WalkSignals.{Shows, Signals, MayRaise, send_holds}
+use Rattle.board_step.proofs.WalkSignals.{Shows, Signals, MayRaise, shows_by}
 use Rattle.board_step.proofs.WalkAcks.{end_level_holds, Ends, inject_tick_holds}
-use Rattle.board_step.proofs.WalkOpen.{Open, of_log}
+use Rattle.board_step.proofs.WalkOpen.{Open, of_log, open_shows}
 
 -- ---- holds
 
@@ -102,11 +84,8 @@ quiet_shown (resent pin) other = λ b ws fit. (refl, tt)
 quiet_shown ipi other = λ b ws fit. (refl, tt)
 quiet_shown (the_reply pic) other = λ b ws fit. tt
 
-pub quiet_shows : (about : About) → Shows quiet about
-quiet_shows about = record {
-  shown = quiet_shown about;
-  chosen = λ m g k h b ws fit. let s = g (next_wish ws) in quiet_sending about s (run (k s) b (later_wishes ws)).log.events (h s b (later_wishes ws) tt);
-}
+pub quiet_shows : {cpus : ℕ} (about : About) → Shows quiet cpus about
+quiet_shows about = open_shows quiet quiet_open about (quiet_shown about) (λ m g k h b ws fit. let s = g (next_wish ws) in quiet_sending about s (run (k s) b (later_wishes ws)).log.events (h s b (later_wishes ws) tt))
 
 module _ (r : RegistryPart) where
   -- a board with this registry and the counts of another, on which Resample holds no pin more
@@ -158,18 +137,14 @@ module _ (r : RegistryPart) where
   shown_left ipi other = λ b ws fit. record { stays = same refl refl refl refl fit; quiet = (refl, tt) }
   shown_left (the_reply pic) other = λ b ws fit. record { stays = same refl refl refl refl fit; quiet = tt }
 
-  pub shows_left : (about : About) → Shows left about
-  shows_left about = record {
-    shown = shown_left about;
-    chosen = λ m g k h b ws fit.
-        let s = g (next_wish ws) in
-        let l = h s b (later_wishes ws) fit in
-        record { stays = l.stays; quiet = quiet_sending about s (run (k s) b (later_wishes ws)).log.events l.quiet };
-  }
+  pub shows_left : {cpus : ℕ} (about : About) → Shows left cpus about
+  shows_left about = shows_by left (λ n apic message seen b fit. same refl refl refl refl fit) about (shown_left about) (λ m g k h b ws fit.
+      let s = g (next_wish ws) in
+      let l = h s b (later_wishes ws) fit in
+      record { stays = l.stays; quiet = quiet_sending about s (run (k s) b (later_wishes ws)).log.events l.quiet })
 
-  pub left_signals : (cpus : ℕ) → Signals left cpus
-  left_signals cpus = record {
-    sends = λ message from about there. send_holds left (λ n apic m seen b fit. same refl refl refl refl fit) about there message from cpus;
+  pub left_signals : Signals left
+  left_signals = record {
     accepts = λ pin b fit. same refl refl refl refl fit;
     pic_leaves = λ pin source b fit. record { registry = fit; counters = refl; pic = λ n free. fewer_held b.pic.holds (hold pin source) (hold n Resample) free; ioapic = λ n free. free };
     ioapic_leaves = λ pin source b fit. record { registry = fit; counters = refl; pic = λ n free. free; ioapic = λ n free. fewer_held b.ioapic.holds (hold pin source) (hold n Resample) free };
@@ -186,7 +161,7 @@ module _ (r : RegistryPart) where
 
   pub left_ends : (shape : Shape) → Ends left (routing_of_registry r shape.tick) shape
   left_ends shape = record {
-    levels = end_level_holds left shape.cpus (left_signals shape.cpus) (λ pin. shows_left (resent pin)) (λ pin b fit. same refl refl refl refl fit);
+    levels = end_level_holds left shape.cpus left_signals (λ pin. shows_left (resent pin)) (λ pin b fit. same refl refl refl refl fit);
     frees = λ b fit. same refl refl refl refl fit;
-    ticks = inject_tick_holds left (routing_of_registry r shape.tick) shape (left_signals shape.cpus) (left_raise _ TickSource tick_differs) (λ status b fit. same refl refl refl refl fit) (λ pic. injected shape.tick pic) (λ pic. shows_left (injected shape.tick pic));
+    ticks = inject_tick_holds left (routing_of_registry r shape.tick) shape left_signals (left_raise _ TickSource tick_differs) (λ status b fit. same refl refl refl refl fit) (λ pic. injected shape.tick pic) (λ pic. shows_left (injected shape.tick pic));
   }

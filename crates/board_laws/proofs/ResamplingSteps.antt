@@ -1,15 +1,8 @@
 -- Each acknowledge of a legal history resamples once, in order.
-use Rattle.std.proofs.Common.{◌≡◌, ℕ, Bool, true, false, inl, inr, List, [], ◌∷◌, ◌++◌, Some, refl, ap, subst, ◌∙◌}
-use Rattle.std.specs.declared.option.Option.{Option}
-use Rattle.irq_base.specs.declared.event.Event.{Event}
-use Rattle.irq_base.specs.declared.event.Event.TheVariants.{Acked}
-use Rattle.irq_base.specs.declared.event.Pin.{Pin}
-use Rattle.irq_base.specs.declared.lists.Entry.{Entry}
-use Rattle.irq_base.specs.Counts.{signalled_all}
-use Rattle.irqfd_set.specs.Rows.{has_resampler}
-use Rattle.board_model.specs.Registry.{RegistryPart}
-use Rattle.board_model.specs.Board.{Board}
-use Rattle.board_model.specs.Run.{Outcome}
+use Rattle.board_step.proofs.Basics.{◌≡◌, ℕ, Bool, true, false, inl, inr, List, [], ◌∷◌, ◌++◌, Some, refl, ap, subst, ◌∙◌, Option}
+use Rattle.board_step.proofs.Types.{Event, Acked, Pin, Entry, signalled_all}
+use Rattle.board_step.proofs.Chips.{has_resampler}
+use Rattle.board_step.proofs.Plans.{RegistryPart, Board, Outcome}
 use Rattle.board_step.specs.Step.{would_publish, with_counts, outcome_of, Step}
 use Rattle.board_laws.specs.Points.{OfLegalHistories}
 use Rattle.board_laws.specs.Resampling.{counters_told, signals_told, signals_owed, ResamplesOnce, AcknowledgesResampleOnce, EachAcknowledgeResamplesOnce}

@@ -1,37 +1,13 @@
 -- What a call in code did is what a body has to do.
-use Rattle.std.proofs.Common.{◌≡◌, ℕ, ◌+◌, ◌^◌, ◌<◌, ◌≤◌, Bool, true, false, not, ◌&&◌, ◌||◌, if◌then◌else◌, ◌++◌, nat_eq, nat_lt, List, [], ◌∷◌, Ok, Err, Some, None, refl, sym, ap, ◌∙◌, subst, arith}
-use Rattle.std.proofs.lemmas.Bool.Decides.{nat_tests}
-use Rattle.std.specs.Prelude.{Result, IfSome, is_some, find}
-use Rattle.std.specs.List.{list_any}
-use Rattle.irqfd_set.specs.declared.irqfds.Irqfd.{Irqfd}
-use Rattle.irqfd_set.specs.Rows.{is_named, named_row}
+use Rattle.board_step.proofs.Basics.{◌≡◌, ℕ, ◌+◌, ◌^◌, ◌≤◌, true, false, not, ◌&&◌, ◌||◌, if◌then◌else◌, ◌++◌, List, [], ◌∷◌, Ok, Err, Some, None, refl, sym, ap, ◌∙◌, subst, arith, Result, IfSome, is_some, find, list_any, Option}
+use Rattle.board_step.proofs.Types.{Irqfd, Reason, first_of, Call, Caller, Event, Refusal, Reply, Refused, Shape, with_told, TickState, Lacks}
+use Rattle.board_step.proofs.Chips.{is_named, named_row}
+use Rattle.board_step.proofs.Plans.{Board, Parts, Plan, Wishes, OnParts, gives, lacks, run_on}
+use Rattle.board_step.proofs.Calls.{number_of, plan_in_range, FitsShape, FitsButTick, range_reasons, unless_refused, TellsOn}
 use Rattle.std.specs.Option.{option_or}
-use Rattle.std.specs.declared.option.Option.{Option}
-use Rattle.irq_base.specs.Callers.{is_allowed}
-use Rattle.irq_base.specs.Refusals.{Reason, first_of}
-use Rattle.irq_base.specs.declared.call.Call.{Call}
-use Rattle.irq_base.specs.declared.call.Caller.{Caller}
-use Rattle.irq_base.specs.declared.event.Event.{Event}
-use Rattle.irq_base.specs.declared.refusal.Refusal.{Refusal}
-use Rattle.irq_base.specs.declared.reply.Reply.{Reply}
-use Rattle.irq_base.specs.declared.reply.Reply.TheVariants.{Refused}
-use Rattle.irq_base.specs.declared.shape.Shape.{Shape}
-use Rattle.irq_base.specs.Room.{with_told}
 use Rattle.irq_base.proofs.Room.{told-none}
-use Rattle.tick_reinject.specs.declared.state.TickState.{TickState}
-use Rattle.board_model.specs.Board.{Board}
-use Rattle.board_model.specs.Hand.{Parts}
-use Rattle.board_model.specs.Routing.{Routing}
-use Rattle.board_model.specs.Plan.{Plan}
 use Rattle.board_model.specs.Published.{routing_of_words}
-use Rattle.board_model.specs.Run.{Wishes, OnParts, gives, lacks, run_on}
-use Rattle.board_raise.specs.declared.lacks.Lacks.{Lacks}
 use Rattle.board_raise.specs.declared.parts.Parts as code
-use Rattle.board_calls.specs.Calls.{number_of, plan_in_range, plan_of}
-use Rattle.board_calls.specs.Done.{FitsShape, FitsButTick}
-use Rattle.board_calls.specs.Refusals.{range_reasons}
-use Rattle.board_calls.specs.Registrations.{unless_refused}
-use Rattle.board_calls.specs.Told.{TellsOn}
 use Rattle.board_step.specs.Bodies.{plan_by, Did, BodyLeads}
 use Rattle.board_step.specs.Step.{later_reasons, does_publish, publishes_unless, would_publish}
 use Rattle.board_step.proofs.BodySteps.{done_leads}

@@ -1,20 +1,9 @@
 -- What a body left of all parts of a board in code is the next board, and it keeps what a board keeps.
-use Rattle.std.specs.Prelude.{IfSome}
-use Rattle.std.specs.declared.option.Option.{Option}
-use Rattle.std.proofs.Common.{◌≡◌, ℕ, ◌+◌, Bool, false, if◌then◌else◌, List, length, Some, None, option_map, refl, sym, ap, ◌∙◌, subst}
-use Rattle.irq_base.specs.declared.call.Call.{Call}
-use Rattle.irq_base.specs.declared.call.Caller.{Caller}
-use Rattle.irq_base.specs.declared.event.Event.{Event}
-use Rattle.irq_base.specs.declared.lists.Entry.{Entry}
-use Rattle.irq_base.specs.declared.reply.Reply.{Reply}
-use Rattle.irq_base.specs.declared.shape.Part.TheVariants.{Registry}
-use Rattle.board_model.specs.Hand.{part_in, all_parts}
-use Rattle.board_model.specs.Published.{published}
-use Rattle.board_raise.specs.declared.board_rig.BoardRig.{BoardRig}
+use Rattle.board_step.proofs.Basics.{IfSome, Option, ◌≡◌, ℕ, ◌+◌, Bool, false, if◌then◌else◌, List, length, Some, None, option_map, refl, sym, ap, ◌∙◌, subst}
+use Rattle.board_step.proofs.Types.{Call, Caller, Event, Entry, Reply, Registry, BoardRig}
+use Rattle.board_step.proofs.Plans.{part_in, all_parts, published}
+use Rattle.board_step.proofs.Calls.{words_in, PinsFit, registry_of, parts_of, chips_of}
 use Rattle.board_raise.specs.declared.parts.RegistryPart.{RegistryPart}
-use Rattle.board_raise.specs.BoardRig.{words_in}
-use Rattle.board_raise.specs.Fit.{PinsFit}
-use Rattle.board_raise.specs.InHand.{registry_of, parts_of, chips_of}
 use Rattle.board_step.specs.declared.board.Board.TheInside.{Inside}
 use Rattle.board_step.specs.Step.{would_publish, Step}
 use Rattle.board_step.specs.Publications.{KeepsTheFrame}

@@ -1,26 +1,9 @@
 -- One call on a board in code is one step of it.
-use Rattle.std.proofs.Common.{◌≡◌, ℕ, ◌+◌, ◌<◌, Bool, true, false, true≢false, nat_lt, List, [], ◌∷◌, Ok, is_some, Some, None, refl, sym, ap, ◌∙◌, subst, arith}
-use Rattle.std.proofs.lemmas.Bool.Decides.{nat_tests}
-use Rattle.std.specs.Prelude.{IfSome, unwrap_or}
-use Rattle.std.specs.declared.option.Option.{Option}
-use Rattle.irq_base.specs.Callers.{is_allowed}
-use Rattle.irq_base.specs.declared.call.Call.{Call}
-use Rattle.irq_base.specs.declared.call.Caller.{Caller}
-use Rattle.irq_base.specs.declared.event.Event.{Event}
-use Rattle.irq_base.specs.declared.reply.Reply.{Reply}
-use Rattle.irq_base.specs.declared.shape.Part.{Part}
-use Rattle.irq_base.specs.declared.shape.Part.TheVariants.{Registry, Counters, Tick, Pic, Ioapic, Lapic}
-use Rattle.board_model.specs.Agreement.{LacksReached}
-use Rattle.board_model.specs.Board.{Board, part_of}
-use Rattle.board_model.specs.Hand.{Parts, part_in}
-use Rattle.board_model.specs.Published.{published}
-use Rattle.board_model.specs.Run.{Wishes, run_on}
-use Rattle.board_raise.specs.declared.board_rig.BoardRig.{BoardRig}
-use Rattle.board_raise.specs.BoardRig.{words_in}
-use Rattle.board_raise.specs.Fit.{Fits}
-use Rattle.board_raise.specs.InHand.{registry_of, parts_of, chips_of}
-use Rattle.board_calls.specs.Done.{FitsShape, FitsButTick}
-use Rattle.board_calls.specs.Told.{TellsOn}
+use Rattle.board_step.proofs.Basics.{◌≡◌, ℕ, ◌+◌, ◌<◌, Bool, true, false, true≢false, nat_lt, List, [], ◌∷◌, Ok, Some, None, refl, sym, ap, ◌∙◌, subst, arith, nat_tests, IfSome, unwrap_or, Option}
+use Rattle.board_step.proofs.Types.{is_allowed, Call, Caller, Event, Reply, Part, Registry, Lapic, BoardRig}
+use Rattle.board_step.proofs.Plans.{LacksReached, Board, part_of, Parts, published, Wishes, run_on}
+use Rattle.board_step.proofs.Calls.{words_in, Fits, registry_of, parts_of, chips_of, FitsShape, FitsButTick, TellsOn}
+use Rattle.std.proofs.Common.{is_some}
 use Rattle.board_step.specs.declared.board.Board.TheInside.{Inside}
 use Rattle.board_step.specs.Applied.{Applied, Ran}
 use Rattle.board_step.specs.Bodies.{MayCall, plan_by, entry_of, Stepped}
@@ -91,12 +74,8 @@ never_lacks a kept caller call allowed p lacks = true≢false (sym (kept.whole.e
     below n m h = grind (h, arith, nat_tests)
 
     is_of : (p : Part) → reach (board_in a) caller call p ≡ true → is_part a.shape p ≡ true
-    is_of Registry within = refl
-    is_of Counters within = refl
-    is_of Tick within = refl
-    is_of Pic within = refl
-    is_of Ioapic within = refl
     is_of (Lapic n) within = below n a.shape.cpus (reach_is_there (board_in a) caller call n allowed within)
+    is_of _ within = refl
 
 -- ---- after it
 

@@ -1,20 +1,11 @@
 -- One law for all bodies, from exactness on parts, the table of reach and the published words.
-use Rattle.std.proofs.Common.{◌≡◌, ℕ, Bool, true, false, List, [], ◌∷◌, length, refl, sym, ap, ◌∙◌, subst, Ok, Err, arith}
-use Rattle.std.specs.Prelude.{Result}
-use Rattle.irq_base.specs.declared.call.Call.{Call}
-use Rattle.irq_base.specs.declared.call.Caller.{Caller}
-use Rattle.irq_base.specs.declared.event.Event.{Event}
-use Rattle.irq_base.specs.declared.reply.Reply.{Reply}
-use Rattle.irq_base.specs.declared.shape.Shape.{Shape}
-use Rattle.irq_base.specs.Room.{with_told}
-use Rattle.board_model.specs.Board.{Board}
-use Rattle.board_model.specs.Hand.{Parts, part_in, all_parts}
-use Rattle.board_model.specs.Run.{Wishes, Log, run, reaches, OnParts, gives, lacks, run_on}
-use Rattle.board_model.specs.Agreement.{Agrees, Exact, LacksReached}
+use Rattle.board_step.proofs.Basics.{◌≡◌, ℕ, Bool, true, false, List, [], ◌∷◌, length, refl, sym, ap, ◌∙◌, subst, Ok, Err, arith, Result}
+use Rattle.board_step.proofs.Types.{Call, Caller, Event, Reply, Shape, with_told, Lacks}
+use Rattle.board_step.proofs.Plans.{Board, Parts, part_in, all_parts, Wishes, Log, run, reaches, OnParts, gives, lacks, run_on, LacksReached}
+use Rattle.board_step.proofs.Calls.{plan_of}
+use Rattle.board_model.specs.Agreement.{Agrees, Exact}
 use Rattle.board_model.proofs.OnParts.{exact_on_parts}
 use Rattle.board_model.proofs.Words.{words_tell}
-use Rattle.board_raise.specs.declared.lacks.Lacks.{Lacks}
-use Rattle.board_calls.specs.Calls.{plan_of}
 use Rattle.board_step.specs.Step.{would_publish, with_counts, plan_on, counted}
 use Rattle.board_step.specs.Reach.{reach}
 use Rattle.board_step.specs.Applied.{Ran}

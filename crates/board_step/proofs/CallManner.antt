@@ -1,50 +1,18 @@
 -- What each call does keeps to a manner.
-use Rattle.std.proofs.Common.{◌≡◌, ℕ, ◌-◌, Bool, true, false, not, ◌&&◌, ◌||◌, nat_eq, nat_lt, if◌then◌else◌, List, slice_index, is_some, refl, ap, Some, None}
-use Rattle.std.specs.declared.option.Option.{Option}
-use Rattle.irq_base.specs.Refusals.{Reason, first_of}
-use Rattle.irq_base.specs.declared.call.Call.{Call}
-use Rattle.irq_base.specs.declared.call.Call.TheVariants as calls
-use Rattle.irq_base.specs.declared.call.Caller.{Caller}
-use Rattle.irq_base.specs.declared.call.Space.{Space}
-use Rattle.irq_base.specs.declared.call.Space.TheVariants as spaces
-use Rattle.irq_base.specs.declared.message.Source.TheVariants.{Line, Resample}
-use Rattle.irq_base.specs.declared.refusal.Refusal.{Refusal}
-use Rattle.irq_base.specs.declared.reply.Reply.{Reply}
-use Rattle.irq_base.specs.declared.reply.Reply.TheVariants.{Done, Count, Empty, Removed, Value, Exit, Vector, Extint, Nmi, Ended, Nothing, Held}
-use Rattle.irq_base.specs.declared.shape.Shape.{Shape}
-use Rattle.pic_8259a.specs.Pair.{is_port, write_to as pair_write_to, read_from as pair_read_from, has_output, Cycle, cycle}
-use Rattle.ioapic_82093aa.specs.Pins.{write_to, resend_of}
-use Rattle.lapic.specs.declared.outcome.Effect.{Effect as LapicEffect}
-use Rattle.lapic.specs.declared.outcome.Effect.TheVariants as effects
-use Rattle.lapic.specs.Registers.{LocalApic}
-use Rattle.lapic.specs.Offsets.{store_to, store_effect}
-use Rattle.lapic.specs.Priority.{giveable_of}
-use Rattle.irq_bits.specs.Members.{greatest_vector}
-use Rattle.msi_decode.specs.Messages.{message_in}
-use Rattle.event_counter.specs.Counters.{what_is_read}
-use Rattle.tick_reinject.specs.declared.state.TickState.{TickState}
-use Rattle.tick_reinject.specs.Ticks.{ticked, tick_injects}
-use Rattle.irqfd_set.specs.declared.irqfds.Irqfd.{Irqfd}
-use Rattle.irqfd_set.specs.Rows as irqfds
-use Rattle.ioevent_set.specs.Rows.{rung_by}
-use Rattle.board_model.specs.declared.trigger.TriggerWord.{TriggerWord}
-use Rattle.board_model.specs.Registry.{RegistryPart}
-use Rattle.board_model.specs.Routing.{Routing}
-use Rattle.board_model.specs.Chips.{PicPart, pair_of, ioapic_of}
-use Rattle.board_model.specs.Statuses.{nobody}
-use Rattle.board_model.specs.Plan.{injected, ipi, the_reply, Plan, done, reply, ◌>>◌}
-use Rattle.board_raise.specs.Send.{send}
-use Rattle.board_raise.specs.Signal.{raise, inject}
+use Rattle.board_step.proofs.Basics.{◌≡◌, ℕ, ◌-◌, Bool, true, false, not, ◌&&◌, ◌||◌, nat_eq, nat_lt, if◌then◌else◌, List, refl, ap, Some, None, Option}
+use Rattle.board_step.proofs.Types.calls
+use Rattle.board_step.proofs.Types.spaces
+use Rattle.board_step.proofs.Types.effects
+use Rattle.board_step.proofs.Types.{Reason, first_of, Call, Caller, Space, Line, Resample, Refusal, Reply, Done, Count, Empty, Removed, Value, Exit, Vector, Extint, Nmi, Ended, Nothing, Held, Shape, LapicEffect, greatest_vector, TickState, Irqfd, TriggerWord}
+use Rattle.board_step.proofs.Chips.irqfds
+use Rattle.board_step.proofs.Chips.{is_port, pair_write_to, pair_read_from, has_output, Cycle, cycle, write_to, resend_of, LocalApic, store_to, store_effect, giveable_of, message_in, what_is_read, ticked, tick_injects, rung_by}
+use Rattle.board_step.proofs.Plans.{RegistryPart, Routing, PicPart, pair_of, ioapic_of, nobody, injected, ipi, the_reply, Plan, done, reply, ◌>>◌}
+use Rattle.board_step.proofs.Calls.{send, raise, inject, acknowledge_each, range_reasons, write_reasons, assign_reasons, attach_reasons, detach_reasons, watch_reasons, unwatch_reasons, is_ioapic_address, is_lapic_address, unless_refused, line_set, message_sent, source_of, trigger_written, write, read_reply, take, inject_count, assigned, was_last_resampler, release, deassigned, tick_or_hold, tick, pins_with, end_vector, ended_reply, end_of_interrupt, pic_pin, cycle_pins, cycle_made, inta, given_reply, give, hears_pair, give_of_pair, take_nmi, next_interrupt, pair_written, pair_write, pair_gave, pair_read, resend_written, ioapic_written, ioapic_store, ioapic_load, store_effects, lapic_stored, lapic_store, lapic_load, ring_counter, rung, ring, port_out, port_in, store, load, number_of, io_row, plan_in_range, plan_of}
+use Rattle.std.proofs.Common.{slice_index, is_some}
 use Rattle.board_raise.proofs.Manner.{Manner, shows_there, sets_replied, is_refusal, Keeps, keeps_bind}
 use Rattle.board_raise.proofs.SignalSteady.{send_keeps, let_go_keeps, lower_keeps, raise_keeps, inject_keeps}
-use Rattle.board_ack.specs.Acknowledge.{acknowledge_each}
 use Rattle.board_ack.proofs.AcknowledgeSteady.{tick_keeps, in_event, resend_keeps, each_keeps}
-use Rattle.board_calls.specs.Refusals.{range_reasons, write_reasons, assign_reasons, attach_reasons, detach_reasons, watch_reasons, unwatch_reasons, is_ioapic_address, is_lapic_address}
-use Rattle.board_calls.specs.Registrations.{unless_refused, unless_one_of, line_set, message_sent, source_of, trigger_written, write, read_reply, take, inject_count, assigned, was_last_resampler, release, deassigned}
-use Rattle.board_calls.specs.Ticks.{tick_or_hold, tick}
-use Rattle.board_calls.specs.Processors.{pins_with, end_vector, ended_reply, end_of_interrupt, pic_pin, cycle_pins, cycle_made, inta, given_reply, give, hears_pair, give_of_pair, take_nmi, next_interrupt}
-use Rattle.board_calls.specs.Accesses.{pair_written, pair_write, pair_gave, pair_read, resend_written, ioapic_written, ioapic_store, ioapic_load, store_effects, lapic_stored, lapic_store, lapic_load, ring_counter, rung, ring, port_out, port_in, store, load}
-use Rattle.board_calls.specs.Calls.{number_of, io_row, plan_in_range, plan_of}
+use Rattle.board_calls.specs.Registrations.{unless_one_of}
 
 -- ---- the manner that a call needs
 
@@ -93,6 +61,10 @@ module _ (w : Manner) where
   pub ends : (r : Reply) → sets_replied r ≡ nobody → is_refusal r ≡ false → Keeps w (reply r)
   ends r sets accepts = (record { sets = sets; accepts = ap (λ t. t && not w.refuses) accepts }, tt)
 
+  keeps_if : {A : Type 0} (t : Bool) (m n : Plan A) → Keeps w m → Keeps w n → Keeps w (if t then m else n)
+  keeps_if true m n h k = h
+  keeps_if false m n h k = k
+
   refused_keeps : (refusal : Option Refusal) (plan : Plan (Unit {0})) → w.refuses ≡ true → Keeps w plan → Keeps w (unless_refused refusal plan)
   refused_keeps None plan may h = h
   refused_keeps (Some refusal) plan may h = (record { sets = refl; accepts = ap not may }, tt)
@@ -118,7 +90,7 @@ module _ (w : Manner) where
       trigger_keeps trigger = keeps_bind w (λ _. done tt) (inject shape.cpus (routing.targets trigger.gsi) (source_of trigger.resample) (λ pic. the_reply pic)) (inject_keeps w shape.cpus (routing.targets trigger.gsi) (source_of trigger.resample) (λ pic. the_reply pic) in_reply) (λ _. tt)
 
       pub write_trigger_keeps : (trigger : TriggerWord) (counter n : ℕ) → Keeps w (write routing shape (Some trigger) counter n)
-      write_trigger_keeps trigger counter n = elim (nat_eq n 0) as (λ t. Keeps w (if t then reply Done else trigger_written routing shape trigger)) [ true ↦ ends Done refl refl | false ↦ trigger_keeps trigger ]
+      write_trigger_keeps trigger counter n = keeps_if (nat_eq n 0) (reply Done) (trigger_written routing shape trigger) (ends Done refl refl) (trigger_keeps trigger)
 
       write_keeps : w.refuses ≡ true → (trigger : Option TriggerWord) (counter n : ℕ) → Keeps w (write routing shape trigger counter n)
       write_keeps may None counter n = λ counts. unless_keeps (write_reasons counts counter n) _ may (refl, ends Done refl refl)
@@ -192,44 +164,36 @@ module _ (w : Manner) where
           of_given (Some vector) = ends (Vector vector) refl refl
 
       pair_gives_keeps : (n : ℕ) (apic : LocalApic) → Keeps w (give_of_pair routing shape n apic)
-      pair_gives_keeps n apic = λ pic. elim (has_output (pair_of pic)) as (λ t. Keeps w (if t then cycle_made routing shape pic (cycle (pair_of pic)) (Extint (cycle (pair_of pic)).vector) else give n apic)) [
-        | true ↦ cycle_keeps pic (cycle (pair_of pic)) (Extint (cycle (pair_of pic)).vector) (ends (Extint (cycle (pair_of pic)).vector) refl refl)
-        | false ↦ give_keeps n apic
-      ]
+      pair_gives_keeps n apic = λ pic.
+          let made = cycle (pair_of pic) in
+          keeps_if (has_output (pair_of pic)) (cycle_made routing shape pic made (Extint made.vector)) (give n apic) (cycle_keeps pic made (Extint made.vector) (ends (Extint made.vector) refl refl)) (give_keeps n apic)
 
       next_keeps : (n : ℕ) → Keeps w (next_interrupt routing shape n)
-      next_keeps n = λ apic. elim apic.nmi as (λ t. Keeps w (if t then take_nmi n apic else if hears_pair n apic then give_of_pair routing shape n apic else give n apic)) [
-        | true ↦ (refl, ends Nmi refl refl)
-        | false ↦ elim (hears_pair n apic) as (λ t. Keeps w (if t then give_of_pair routing shape n apic else give n apic)) [ true ↦ pair_gives_keeps n apic | false ↦ give_keeps n apic ]
-      ]
+      next_keeps n = λ apic. keeps_if apic.nmi (take_nmi n apic) (if hears_pair n apic then give_of_pair routing shape n apic else give n apic) (refl, ends Nmi refl refl)
+          (keeps_if (hears_pair n apic) (give_of_pair routing shape n apic) (give n apic) (pair_gives_keeps n apic) (give_keeps n apic))
 
       -- ---- accesses
 
       pair_write_keeps : (port len value : ℕ) → Keeps w (pair_write routing shape port len value)
-      pair_write_keeps port len value = λ pic. keeps_bind w (λ _. reply Done) (if nat_eq len 1 then pair_written routing shape pic (pair_write_to (pair_of pic) port value) else done tt)
-          (elim (nat_eq len 1) as (λ t. Keeps w (if t then pair_written routing shape pic (pair_write_to (pair_of pic) port value) else done tt)) [
-            | true ↦ (refl, each_keeps w there routing shape (pic_pin (pair_write_to (pair_of pic) port value).pin))
-            | false ↦ tt
-          ])
-          (λ _. ends Done refl refl)
+      pair_write_keeps port len value = λ pic.
+          let effect = pair_write_to (pair_of pic) port value in
+          keeps_bind w (λ _. reply Done) (if nat_eq len 1 then pair_written routing shape pic effect else done tt)
+          (keeps_if (nat_eq len 1) (pair_written routing shape pic effect) (done tt) (refl, each_keeps w there routing shape (pic_pin effect.pin)) tt) (λ _. ends Done refl refl)
 
       pair_read_keeps : (port len : ℕ) → Keeps w (pair_read routing shape port len)
-      pair_read_keeps port len = λ pic. elim (nat_eq len 1) as (λ t. Keeps w (if t then pair_gave routing shape pic (pair_read_from (pair_of pic) port) else reply (Value 0))) [
-        | true ↦ let read = pair_read_from (pair_of pic) port in (refl, acked_keeps (pic_pin read.pin) (Value read.value) (ends (Value read.value) refl refl))
-        | false ↦ ends (Value 0) refl refl
-      ]
+      pair_read_keeps port len = λ pic.
+          let read = pair_read_from (pair_of pic) port in
+          keeps_if (nat_eq len 1) (pair_gave routing shape pic read) (reply (Value 0)) (refl, acked_keeps (pic_pin read.pin) (Value read.value) (ends (Value read.value) refl refl)) (ends (Value 0) refl refl)
 
       resend_written_keeps : (pin : Option ℕ) → Keeps w (resend_written shape pin)
       resend_written_keeps None = tt
       resend_written_keeps (Some pin) = λ part. resend_keeps w there shape.cpus pin (resend_of (ioapic_of part) pin)
 
       ioapic_store_keeps : (offset len value : ℕ) → Keeps w (ioapic_store shape offset len value)
-      ioapic_store_keeps offset len value = λ part. keeps_bind w (λ _. reply Done) (if nat_eq len 4 then ioapic_written shape part (write_to (ioapic_of part) offset value) else done tt)
-          (elim (nat_eq len 4) as (λ t. Keeps w (if t then ioapic_written shape part (write_to (ioapic_of part) offset value) else done tt)) [
-            | true ↦ (refl, resend_written_keeps (write_to (ioapic_of part) offset value).pin)
-            | false ↦ tt
-          ])
-          (λ _. ends Done refl refl)
+      ioapic_store_keeps offset len value = λ part.
+          let made = write_to (ioapic_of part) offset value in
+          keeps_bind w (λ _. reply Done) (if nat_eq len 4 then ioapic_written shape part made else done tt)
+          (keeps_if (nat_eq len 4) (ioapic_written shape part made) (done tt) (refl, resend_written_keeps made.pin) tt) (λ _. ends Done refl refl)
 
       effects_keep : (n : ℕ) (effect : LapicEffect) → Keeps w (store_effects routing shape n effect)
       effects_keep n effects.Plain = tt
@@ -238,12 +202,9 @@ module _ (w : Manner) where
           keeps_bind w (λ _. done tt) (send shape.cpus message.message (Some (n, message.to)) ipi) (send_keeps w ipi (in_event w there ipi refl) shape.cpus message.message (Some (n, message.to))) (λ _. tt)
 
       lapic_store_keeps : (n offset len value : ℕ) → Keeps w (lapic_store routing shape n offset len value)
-      lapic_store_keeps n offset len value = λ apic. keeps_bind w (λ _. reply Done) (if nat_eq len 4 then lapic_stored routing shape n (store_to apic offset value) (store_effect apic offset value) else done tt)
-          (elim (nat_eq len 4) as (λ t. Keeps w (if t then lapic_stored routing shape n (store_to apic offset value) (store_effect apic offset value) else done tt)) [
-            | true ↦ (refl, effects_keep n (store_effect apic offset value))
-            | false ↦ tt
-          ])
-          (λ _. ends Done refl refl)
+      lapic_store_keeps n offset len value = λ apic.
+          let stored = lapic_stored routing shape n (store_to apic offset value) (store_effect apic offset value) in
+          keeps_bind w (λ _. reply Done) (if nat_eq len 4 then stored else done tt) (keeps_if (nat_eq len 4) stored (done tt) (refl, effects_keep n (store_effect apic offset value)) tt) (λ _. ends Done refl refl)
 
       ring_counter_keeps : (counter : ℕ) (trigger : Option TriggerWord) → Keeps w (ring_counter routing shape counter trigger)
       ring_counter_keeps counter None = λ counts. (refl, tt)
@@ -259,31 +220,23 @@ module _ (w : Manner) where
           of_rung (Some counter) = (refl, keeps_bind w (λ _. reply Done) (ring_counter routing shape counter (routing.trigger counter)) (ring_counter_keeps counter (routing.trigger counter)) (λ _. ends Done refl refl))
 
       port_out_keeps : (port len value : ℕ) → Keeps w (port_out routing shape port len value)
-      port_out_keeps port len value = elim (is_port port) as (λ t. Keeps w (if t then pair_write routing shape port len value else ring routing shape spaces.Port port len value)) [
-        | true ↦ pair_write_keeps port len value
-        | false ↦ ring_keeps spaces.Port port len value
-      ]
+      port_out_keeps port len value = keeps_if (is_port port) (pair_write routing shape port len value) (ring routing shape spaces.Port port len value) (pair_write_keeps port len value) (ring_keeps spaces.Port port len value)
 
       port_in_keeps : (port len : ℕ) → Keeps w (port_in routing shape port len)
-      port_in_keeps port len = elim (is_port port) as (λ t. Keeps w (if t then pair_read routing shape port len else reply Exit)) [ true ↦ pair_read_keeps port len | false ↦ ends Exit refl refl ]
+      port_in_keeps port len = keeps_if (is_port port) (pair_read routing shape port len) (reply Exit) (pair_read_keeps port len) (ends Exit refl refl)
 
       store_keeps : (n address len value : ℕ) → Keeps w (store routing shape n address len value)
-      store_keeps n address len value = elim (is_ioapic_address address) as (λ t. Keeps w (if t then ioapic_store shape (address - 0xfec00000) len value else elsewhere)) [
-        | true ↦ ioapic_store_keeps (address - 0xfec00000) len value
-        | false ↦ elim (is_lapic_address address) as (λ t. Keeps w (if t then lapic_store routing shape n (address - 0xfee00000) len value else ring routing shape spaces.Memory address len value)) [
-          | true ↦ lapic_store_keeps n (address - 0xfee00000) len value
-          | false ↦ ring_keeps spaces.Memory address len value
-        ]
-      ]
-        where
-          elsewhere : Plan (Unit {0})
-          elsewhere = if is_lapic_address address then lapic_store routing shape n (address - 0xfee00000) len value else ring routing shape spaces.Memory address len value
+      store_keeps n address len value =
+          let own = lapic_store routing shape n (address - 0xfee00000) len value in
+          let other = ring routing shape spaces.Memory address len value in
+          keeps_if (is_ioapic_address address) (ioapic_store shape (address - 0xfec00000) len value) (if is_lapic_address address then own else other) (ioapic_store_keeps (address - 0xfec00000) len value)
+          (keeps_if (is_lapic_address address) own other (lapic_store_keeps n (address - 0xfee00000) len value) (ring_keeps spaces.Memory address len value))
 
     load_keeps : (n address len : ℕ) → Keeps w (load n address len)
-    load_keeps n address len = elim (is_ioapic_address address) as (λ t. Keeps w (if t then ioapic_load (address - 0xfec00000) len else if is_lapic_address address then lapic_load n (address - 0xfee00000) len else reply Exit)) [
-      | true ↦ λ part. ends (Value _) refl refl
-      | false ↦ elim (is_lapic_address address) as (λ t. Keeps w (if t then lapic_load n (address - 0xfee00000) len else reply Exit)) [ true ↦ λ apic. ends (Value _) refl refl | false ↦ ends Exit refl refl ]
-    ]
+    load_keeps n address len =
+        let own = lapic_load n (address - 0xfee00000) len in
+        keeps_if (is_ioapic_address address) (ioapic_load (address - 0xfec00000) len) (if is_lapic_address address then own else reply Exit) (λ part. ends (Value _) refl refl)
+        (keeps_if (is_lapic_address address) own (reply Exit) (λ apic. ends (Value _) refl refl) (ends Exit refl refl))
 
     -- ---- each call
 

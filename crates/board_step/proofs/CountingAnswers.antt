@@ -1,20 +1,12 @@
 -- Each call answers exactly once, and on a sound board it tells at most 560 events.
-use Rattle.std.proofs.Common.{◌≡◌, ℕ, ◌+◌, ◌≤◌, List, [], ◌∷◌, length, map, refl, subst, arith}
-use Rattle.irq_base.specs.declared.event.Pin.{Pin}
+use Rattle.board_step.proofs.Basics.{◌≡◌, ℕ, ◌+◌, ◌≤◌, List, [], ◌∷◌, length, map, refl, subst, arith}
+use Rattle.board_step.proofs.Types.{Pin, Shape, Call, Caller, Event, Reply}
+use Rattle.board_step.proofs.Chips.{has_vector}
+use Rattle.board_step.proofs.Plans.{Board, Wishes, run, RegistryPart, Routing, routing_of_registry}
+use Rattle.board_step.proofs.Calls.{all_pins}
 use Rattle.irq_base.specs.declared.event.Pin.TheVariants.{Ioapic}
-use Rattle.irq_base.specs.declared.shape.Shape.{Shape}
-use Rattle.ioapic_82093aa.specs.Pins.{has_vector}
-use Rattle.irq_base.specs.declared.call.Call.{Call}
-use Rattle.irq_base.specs.declared.call.Caller.{Caller}
-use Rattle.irq_base.specs.declared.event.Event.{Event}
-use Rattle.irq_base.specs.declared.reply.Reply.{Reply}
-use Rattle.board_model.specs.Board.{Board}
-use Rattle.board_model.specs.Run.{Wishes, run}
-use Rattle.board_model.specs.Registry.{RegistryPart}
-use Rattle.board_model.specs.Routing.{Routing, routing_of_registry}
 use Rattle.board_raise.proofs.Counting.{Told}
 use Rattle.board_ack.proofs.Counting.{each_events}
-use Rattle.board_calls.specs.Processors.{all_pins}
 use Rattle.board_step.specs.Step.{plan_on, outcome_of, counted}
 use Rattle.board_step.specs.Sound.{IsSound}
 use Rattle.board_step.specs.Laws.{AnswersOnce, AlwaysAnswers, StepsTellFew}

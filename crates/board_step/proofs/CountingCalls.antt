@@ -1,60 +1,18 @@
 -- Every call answers exactly once, and tells few events besides those of its acknowledges.
-use Rattle.std.proofs.Common.{◌≡◌, ℕ, ◌+◌, ◌-◌, ◌≤◌, Bool, true, false, nat_eq, nat_lt, if◌then◌else◌, List, refl, arith, Some, None}
-use Rattle.std.specs.Prelude.{slice_index, is_some}
-use Rattle.std.specs.declared.option.Option.{Option}
-use Rattle.irq_base.specs.Refusals.{first_of}
-use Rattle.irq_base.specs.declared.call.Call.{Call}
-use Rattle.irq_base.specs.declared.call.Call.TheVariants.{Line, Msi, Write, Take, Assign, Deassign, Reroute, Attach, Detach, Watch, Unwatch, Tick, TickMode, PortOut, PortIn, Store, Load, Ack, Inta, Eoi}
-use Rattle.irq_base.specs.declared.call.Caller.{Caller}
-use Rattle.irq_base.specs.declared.call.Row.{Row}
-use Rattle.irq_base.specs.declared.call.Space.{Space}
-use Rattle.irq_base.specs.declared.call.Space.TheVariants as spaces
-use Rattle.irq_base.specs.declared.event.Event.TheVariants.{Rang}
-use Rattle.irq_base.specs.declared.event.Pin.{Pin}
-use Rattle.irq_base.specs.declared.message.Source.TheVariants as sources
-use Rattle.irq_base.specs.declared.refusal.Refusal.{Refusal}
-use Rattle.irq_base.specs.declared.reply.Reply.{Reply}
-use Rattle.irq_base.specs.declared.reply.Reply.TheVariants.{Done, Value, Vector, Extint, Exit, Held, Removed, Refused}
-use Rattle.irq_base.specs.declared.shape.Part.TheVariants as parts
-use Rattle.irq_base.specs.declared.shape.Shape.{Shape}
-use Rattle.msi_decode.specs.Messages.{message_in}
-use Rattle.pic_8259a.specs.declared.pair.Pair.{Pair}
-use Rattle.pic_8259a.specs.Accesses.{Effect, Read}
-use Rattle.pic_8259a.specs.Pair.{is_port, has_output, Cycle, cycle, write_to as pair_write_to, read_from as pair_read_from}
-use Rattle.ioapic_82093aa.specs.declared.ioapic.Ioapic.{Ioapic as IoapicChip}
-use Rattle.ioapic_82093aa.specs.Pins.{Written, write_to, resend_of}
-use Rattle.lapic.specs.declared.outcome.Effect.{Effect as LapicEffect}
-use Rattle.lapic.specs.declared.outcome.Effect.TheVariants as effects
-use Rattle.lapic.specs.Registers.{LocalApic}
-use Rattle.lapic.specs.Offsets.{store_to, store_effect}
-use Rattle.lapic.specs.Priority.{giveable_of, given, without_service}
-use Rattle.irq_bits.specs.Members.{greatest_vector}
-use Rattle.irqfd_set.specs.declared.irqfds.Irqfd.{Irqfd}
-use Rattle.irqfd_set.specs.Rows as irqfds
-use Rattle.ioevent_set.specs.Rows as ioevents
-use Rattle.ioevent_set.specs.declared.row.IoRow.{IoRow}
-use Rattle.event_counter.specs.Counters.{taken}
-use Rattle.irq_base.specs.Counts.{signalled}
-use Rattle.tick_reinject.specs.Ticks.{tick_injects, ticked}
-use Rattle.tick_reinject.specs.declared.state.TickState.{TickState}
-use Rattle.board_model.specs.declared.trigger.TriggerWord.{TriggerWord}
-use Rattle.board_model.specs.Registry.{RegistryPart}
-use Rattle.board_model.specs.Routing.{Routing}
-use Rattle.board_model.specs.Chips.{PicPart, IoapicPart, pair_of, with_pair, ioapic_of, with_ioapic}
-use Rattle.board_model.specs.Board.{Board, part_of, with_part}
-use Rattle.board_model.specs.Plan.{injected, ipi, the_reply, Plan, done, reply, ◌>>◌}
-use Rattle.board_model.specs.Run.{Wishes, run}
-use Rattle.board_raise.specs.Send.{send}
-use Rattle.board_raise.specs.Signal.{raise, inject}
+use Rattle.board_step.proofs.Basics.{◌≡◌, ℕ, ◌+◌, ◌-◌, ◌≤◌, Bool, true, false, nat_eq, nat_lt, if◌then◌else◌, List, refl, arith, Some, None, slice_index, is_some, Option}
+use Rattle.board_step.proofs.Types.spaces
+use Rattle.board_step.proofs.Types.sources
+use Rattle.board_step.proofs.Types.parts
+use Rattle.board_step.proofs.Types.effects
+use Rattle.board_step.proofs.Types.{first_of, Call, Assign, Deassign, Reroute, Attach, Detach, Unwatch, Ack, Caller, Row, Space, Rang, Pin, Refusal, Reply, Done, Value, Vector, Extint, Exit, Held, Removed, Refused, Shape, Pair, IoapicChip, LapicEffect, greatest_vector, Irqfd, IoRow, signalled, TickState, TriggerWord}
+use Rattle.board_step.proofs.Chips.irqfds
+use Rattle.board_step.proofs.Chips.ioevents
+use Rattle.board_step.proofs.Chips.{message_in, Effect, Read, is_port, has_output, Cycle, cycle, pair_write_to, pair_read_from, Written, write_to, resend_of, LocalApic, store_to, store_effect, giveable_of, given, without_service, taken, tick_injects, ticked}
+use Rattle.board_step.proofs.Plans.{RegistryPart, Routing, PicPart, IoapicPart, pair_of, with_pair, ioapic_of, with_ioapic, Board, part_of, with_part, injected, ipi, the_reply, Plan, done, reply, ◌>>◌, Wishes, run}
+use Rattle.board_step.proofs.Calls.{send, raise, inject, acknowledge_each, range_reasons, write_reasons, assign_reasons, attach_reasons, detach_reasons, watch_reasons, unwatch_reasons, is_ioapic_address, is_lapic_address, unless_refused, line_set, message_sent, source_of, trigger_written, write, inject_count, assigned, assign, was_last_resampler, release, deassigned, deassign, reroute, attach, detach, watch, unwatch, tick_or_hold, tick, pins_with, end_vector, ended_reply, end_of_interrupt, pic_pin, cycle_pins, cycle_made, inta, give, hears_pair, give_of_pair, take_nmi, next_interrupt, pair_written, pair_write, pair_gave, pair_read, resend_written, ioapic_written, ioapic_store, ioapic_load, store_effects, lapic_stored, lapic_store, lapic_load, ring_counter, rung, ring, port_out, port_in, store, load, number_of, io_row, plan_in_range, plan_of}
+use Rattle.irq_base.specs.declared.call.Call.TheVariants.{Line, Msi, Write, Take, Watch, Tick, TickMode, PortOut, PortIn, Store, Load, Inta, Eoi}
 use Rattle.board_raise.proofs.Counting.{Told, Tells, IsKind, tells_both, tells_more, tells_later, tells_before, done_tells, send_tells, let_go_tells, lower_tells, raise_tells, inject_tells}
-use Rattle.board_ack.specs.Acknowledge.{acknowledge_each}
 use Rattle.board_ack.proofs.Counting.{HasRegistry, each_events, tell_tells, resend_tells, inject_tick_tells, registry_kind, each_tells}
-use Rattle.board_calls.specs.Refusals.{range_reasons, write_reasons, assign_reasons, attach_reasons, detach_reasons, watch_reasons, unwatch_reasons, is_ioapic_address, is_lapic_address}
-use Rattle.board_calls.specs.Registrations.{unless_refused, line_set, message_sent, source_of, trigger_written, write, inject_count, assigned, assign, was_last_resampler, release, deassigned, deassign, reroute, attach, detach, watch, unwatch}
-use Rattle.board_calls.specs.Ticks.{tick_or_hold, tick}
-use Rattle.board_calls.specs.Processors.{pins_with, end_vector, ended_reply, end_of_interrupt, pic_pin, cycle_pins, cycle_made, inta, give, hears_pair, give_of_pair, take_nmi, next_interrupt}
-use Rattle.board_calls.specs.Accesses.{pair_written, pair_write, pair_gave, pair_read, resend_written, ioapic_written, ioapic_store, ioapic_load, store_effects, lapic_stored, lapic_store, lapic_load, ring_counter, rung, ring, port_out, port_in, store, load}
-use Rattle.board_calls.specs.Calls.{number_of, io_row, plan_in_range, plan_of}
 
 -- every board
 abbrev pub Any : Board → Type 0
@@ -68,6 +26,10 @@ any_kind b p v other h = tt
 module _ (Kind : Board → Type 0) where
   reply_tells : (r : Reply) → Tells Kind 0 1 (reply r)
   reply_tells r = λ b ws h. record { events_at_most = omega arith; answers_exactly = refl; left = h }
+
+  tells_if : {A : Type 0} (i k : ℕ) (t : Bool) (m n : Plan A) → Tells Kind i k m → Tells Kind i k n → Tells Kind i k (if t then m else n)
+  tells_if i k true m n h g = h
+  tells_if i k false m n h g = g
 
   unless_tells : (i : ℕ) (refusal : Option Refusal) (plan : Plan (Unit {0})) → Tells Kind i 1 plan → Tells Kind i 1 (unless_refused refusal plan)
   unless_tells i None plan t = t
@@ -97,10 +59,7 @@ module _ (routing : Routing) (shape : Shape) where
   write_tells : (trigger : Option TriggerWord) (counter n : ℕ) → Tells Any 0 1 (write routing shape trigger counter n)
   write_tells None counter n = λ b ws h.
       unless_tells Any 0 (first_of (write_reasons b.counters counter n)) _ (λ b ws h. record { events_at_most = omega arith; answers_exactly = refl; left = h }) b ws h
-  write_tells (Some trigger) counter n = elim (nat_eq n 0) as (λ t. Tells Any 0 1 (if t then reply Done else trigger_written routing shape trigger)) [
-    | true ↦ reply_tells Any Done
-    | false ↦ written_tells trigger
-  ]
+  write_tells (Some trigger) counter n = tells_if Any 0 1 (nat_eq n 0) (reply Done) (trigger_written routing shape trigger) (reply_tells Any Done) (written_tells trigger)
 
   -- ---- irqfds
 
@@ -185,8 +144,11 @@ module _ (routing : Routing) (shape : Shape) (registry : RegistryPart) (most : �
 
   -- ---- end of interrupt
 
+  nothing : Tells {A = Unit {0}} Kind most 0 (done tt)
+  nothing = tells_more Kind 0 most 0 0 (done tt) (omega arith) refl (done_tells Kind tt)
+
   end_vector_tells : (vector : Option ℕ) → Tells Kind most 0 (end_vector routing shape vector)
-  end_vector_tells None = tells_more Kind 0 most 0 0 (done tt) (omega arith) refl (done_tells Kind tt)
+  end_vector_tells None = nothing
   end_vector_tells (Some vector) = λ b ws h.
       tells_more Kind (each_events routing shape registry (pins_with (ioapic_of b.ioapic) vector)) most 0 0 (acknowledge_each routing shape (pins_with (ioapic_of b.ioapic) vector)) (bounds.ended (ioapic_of b.ioapic) vector) refl
       (each_tells routing shape registry (pins_with (ioapic_of b.ioapic) vector)) b ws h
@@ -219,28 +181,18 @@ module _ (routing : Routing) (shape : Shape) (registry : RegistryPart) (most : �
   give_tells n apic = one_reply (give n apic) (λ b ws h. record { events_at_most = omega arith; answers_exactly = refl; left = kind b (parts.Lapic n) (given apic (giveable_of apic)) refl h })
 
   of_pair_tells : (n : ℕ) (apic : LocalApic) → Tells Kind most 1 (give_of_pair routing shape n apic)
-  of_pair_tells n apic = λ b ws h. by_pic b.pic b ws h
-    where
-      by_pic : (pic : PicPart) → Tells Kind most 1 (if has_output (pair_of pic) then cycle_made routing shape pic (cycle (pair_of pic)) (Extint (cycle (pair_of pic)).vector) else give n apic)
-      by_pic pic = elim (has_output (pair_of pic)) as (λ t. Tells Kind most 1 (if t then cycle_made routing shape pic (cycle (pair_of pic)) (Extint (cycle (pair_of pic)).vector) else give n apic)) [
-        | true ↦ made_tells pic (cycle (pair_of pic)) (Extint (cycle (pair_of pic)).vector) (bounds.cycled (pair_of pic))
-        | false ↦ give_tells n apic
-      ]
+  of_pair_tells n apic = λ b ws h.
+      let made = cycle (pair_of b.pic) in
+      tells_if Kind most 1 (has_output (pair_of b.pic)) (cycle_made routing shape b.pic made (Extint made.vector)) (give n apic) (made_tells b.pic made (Extint made.vector) (bounds.cycled (pair_of b.pic))) (give_tells n apic) b ws h
 
   nmi_tells : (n : ℕ) (apic : LocalApic) → Tells Kind most 1 (take_nmi n apic)
   nmi_tells n apic = one_reply (take_nmi n apic) (λ b ws h. record { events_at_most = omega arith; answers_exactly = refl; left = kind b (parts.Lapic n) (record apic { nmi = false }) refl h })
 
   next_tells : (n : ℕ) → Tells Kind most 1 (next_interrupt routing shape n)
-  next_tells n = λ b ws h. by_apic (part_of b (parts.Lapic n)) b ws h
-    where
-      by_apic : (apic : LocalApic) → Tells Kind most 1 (if apic.nmi then take_nmi n apic else if hears_pair n apic then give_of_pair routing shape n apic else give n apic)
-      by_apic apic = elim apic.nmi as (λ t. Tells Kind most 1 (if t then take_nmi n apic else if hears_pair n apic then give_of_pair routing shape n apic else give n apic)) [
-        | true ↦ nmi_tells n apic
-        | false ↦ elim (hears_pair n apic) as (λ t. Tells Kind most 1 (if t then give_of_pair routing shape n apic else give n apic)) [
-          | true ↦ of_pair_tells n apic
-          | false ↦ give_tells n apic
-        ]
-      ]
+  next_tells n = λ b ws h.
+      let apic = part_of b (parts.Lapic n) in
+      tells_if Kind most 1 apic.nmi (take_nmi n apic) (if hears_pair n apic then give_of_pair routing shape n apic else give n apic) (nmi_tells n apic)
+      (tells_if Kind most 1 (hears_pair n apic) (give_of_pair routing shape n apic) (give n apic) (of_pair_tells n apic) (give_tells n apic)) b ws h
 
   -- ---- accesses of the pair
 
@@ -250,31 +202,20 @@ module _ (routing : Routing) (shape : Shape) (registry : RegistryPart) (most : �
       (with_part b parts.Pic (with_pair pic effect.after)) ws (kind b parts.Pic (with_pair pic effect.after) refl h)
 
   pair_write_tells : (port len value : ℕ) → Tells Kind most 1 (pair_write routing shape port len value)
-  pair_write_tells port len value = λ b ws h. by_pic b.pic b ws h
-    where
-      by_pic : (pic : PicPart) → Tells Kind most 1 ((if nat_eq len 1 then pair_written routing shape pic (pair_write_to (pair_of pic) port value) else done tt) >> reply Done)
-      by_pic pic = elim (nat_eq len 1) as (λ t. Tells Kind most 1 ((if t then pair_written routing shape pic (pair_write_to (pair_of pic) port value) else done tt) >> reply Done)) [
-        | true ↦ then_reply (pair_written routing shape pic (pair_write_to (pair_of pic) port value)) Done (pair_written_tells pic (pair_write_to (pair_of pic) port value))
-        | false ↦ one_reply (reply Done) (reply_tells Kind Done)
-      ]
+  pair_write_tells port len value = λ b ws h.
+      let effect = pair_write_to (pair_of b.pic) port value in
+      then_reply (if nat_eq len 1 then pair_written routing shape b.pic effect else done tt) Done (tells_if Kind most 0 (nat_eq len 1) (pair_written routing shape b.pic effect) (done tt) (pair_written_tells b.pic effect) nothing) b ws h
 
   gave_tells : (pic : PicPart) (read : Read Pair) → Tells Kind most 1 (pair_gave routing shape pic read)
   gave_tells pic read = λ b ws h.
       acknowledged_tells (pic_pin read.pin) (Value read.value) (bounds.one read.pin) (with_part b parts.Pic (with_pair pic read.after)) ws (kind b parts.Pic (with_pair pic read.after) refl h)
 
   pair_read_tells : (port len : ℕ) → Tells Kind most 1 (pair_read routing shape port len)
-  pair_read_tells port len = λ b ws h. by_pic b.pic b ws h
-    where
-      by_pic : (pic : PicPart) → Tells Kind most 1 (if nat_eq len 1 then pair_gave routing shape pic (pair_read_from (pair_of pic) port) else reply (Value 0))
-      by_pic pic = elim (nat_eq len 1) as (λ t. Tells Kind most 1 (if t then pair_gave routing shape pic (pair_read_from (pair_of pic) port) else reply (Value 0))) [
-        | true ↦ gave_tells pic (pair_read_from (pair_of pic) port)
-        | false ↦ one_reply (reply (Value 0)) (reply_tells Kind (Value 0))
-      ]
+  pair_read_tells port len = λ b ws h.
+      let read = pair_read_from (pair_of b.pic) port in
+      tells_if Kind most 1 (nat_eq len 1) (pair_gave routing shape b.pic read) (reply (Value 0)) (gave_tells b.pic read) (one_reply (reply (Value 0)) (reply_tells Kind (Value 0))) b ws h
 
   -- ---- accesses of the I/O APIC
-
-  some_reply : (m : Plan (Unit {0})) (r : Reply) → Tells Kind 1 0 m → Tells Kind most 1 (m >> reply r)
-  some_reply m r t = then_reply m r (tells_more Kind 1 most 0 0 m (omega (arith, bounds.few)) refl t)
 
   entry_tells : (pin : Option ℕ) → Tells Kind 1 0 (resend_written shape pin)
   entry_tells None = tells_more Kind 0 1 0 0 (done tt) (omega arith) refl (done_tells Kind tt)
@@ -285,13 +226,10 @@ module _ (routing : Routing) (shape : Shape) (registry : RegistryPart) (most : �
       entry_tells written.pin (with_part b parts.Ioapic (with_ioapic part written.after)) ws (kind b parts.Ioapic (with_ioapic part written.after) refl h)
 
   ioapic_store_tells : (offset len value : ℕ) → Tells Kind most 1 (ioapic_store shape offset len value)
-  ioapic_store_tells offset len value = λ b ws h. by_part b.ioapic b ws h
-    where
-      by_part : (part : IoapicPart) → Tells Kind most 1 ((if nat_eq len 4 then ioapic_written shape part (write_to (ioapic_of part) offset value) else done tt) >> reply Done)
-      by_part part = elim (nat_eq len 4) as (λ t. Tells Kind most 1 ((if t then ioapic_written shape part (write_to (ioapic_of part) offset value) else done tt) >> reply Done)) [
-        | true ↦ some_reply (ioapic_written shape part (write_to (ioapic_of part) offset value)) Done (ioapic_written_tells part (write_to (ioapic_of part) offset value))
-        | false ↦ one_reply (reply Done) (reply_tells Kind Done)
-      ]
+  ioapic_store_tells offset len value = λ b ws h.
+      let made = write_to (ioapic_of b.ioapic) offset value in
+      then_reply (if nat_eq len 4 then ioapic_written shape b.ioapic made else done tt) Done (tells_if Kind most 0 (nat_eq len 4) (ioapic_written shape b.ioapic made) (done tt)
+      (tells_more Kind 1 most 0 0 (ioapic_written shape b.ioapic made) (omega (arith, bounds.few)) refl (ioapic_written_tells b.ioapic made)) nothing) b ws h
 
   ioapic_load_tells : (offset len : ℕ) → Tells Kind most 1 (ioapic_load offset len)
   ioapic_load_tells offset len = λ b ws h. record { events_at_most = omega arith; answers_exactly = refl; left = h }
@@ -299,7 +237,7 @@ module _ (routing : Routing) (shape : Shape) (registry : RegistryPart) (most : �
   -- ---- accesses of the local APIC
 
   effects_tell : (n : ℕ) (effect : LapicEffect) → Tells Kind most 0 (store_effects routing shape n effect)
-  effects_tell n effects.Plain = tells_more Kind 0 most 0 0 (done tt) (omega arith) refl (done_tells Kind tt)
+  effects_tell n effects.Plain = nothing
   effects_tell n (effects.Ended vector) = end_vector_tells vector
   effects_tell n (effects.Send message) =
       tells_more Kind 1 most 0 0 (send shape.cpus message.message (Some (n, message.to)) ipi >> done tt) (omega (arith, bounds.few)) refl
@@ -309,13 +247,10 @@ module _ (routing : Routing) (shape : Shape) (registry : RegistryPart) (most : �
   stored_tells n after effect = λ b ws h. effects_tell n effect (with_part b (parts.Lapic n) after) ws (kind b (parts.Lapic n) after refl h)
 
   lapic_store_tells : (n offset len value : ℕ) → Tells Kind most 1 (lapic_store routing shape n offset len value)
-  lapic_store_tells n offset len value = λ b ws h. by_apic (part_of b (parts.Lapic n)) b ws h
-    where
-      by_apic : (apic : LocalApic) → Tells Kind most 1 ((if nat_eq len 4 then lapic_stored routing shape n (store_to apic offset value) (store_effect apic offset value) else done tt) >> reply Done)
-      by_apic apic = elim (nat_eq len 4) as (λ t. Tells Kind most 1 ((if t then lapic_stored routing shape n (store_to apic offset value) (store_effect apic offset value) else done tt) >> reply Done)) [
-        | true ↦ then_reply (lapic_stored routing shape n (store_to apic offset value) (store_effect apic offset value)) Done (stored_tells n (store_to apic offset value) (store_effect apic offset value))
-        | false ↦ one_reply (reply Done) (reply_tells Kind Done)
-      ]
+  lapic_store_tells n offset len value = λ b ws h.
+      let apic = part_of b (parts.Lapic n) in
+      let stored = lapic_stored routing shape n (store_to apic offset value) (store_effect apic offset value) in
+      then_reply (if nat_eq len 4 then stored else done tt) Done (tells_if Kind most 0 (nat_eq len 4) stored (done tt) (stored_tells n (store_to apic offset value) (store_effect apic offset value)) nothing) b ws h
 
   lapic_load_tells : (n offset len : ℕ) → Tells Kind most 1 (lapic_load n offset len)
   lapic_load_tells n offset len = λ b ws h. record { events_at_most = omega arith; answers_exactly = refl; left = h }
@@ -342,34 +277,23 @@ module _ (routing : Routing) (shape : Shape) (registry : RegistryPart) (most : �
   -- ---- whose an address is
 
   port_out_tells : (port len value : ℕ) → Tells Kind most 1 (port_out routing shape port len value)
-  port_out_tells port len value = elim (is_port port) as (λ t. Tells Kind most 1 (if t then pair_write routing shape port len value else ring routing shape spaces.Port port len value)) [
-    | true ↦ pair_write_tells port len value
-    | false ↦ ring_tells spaces.Port port len value
-  ]
+  port_out_tells port len value = tells_if Kind most 1 (is_port port) (pair_write routing shape port len value) (ring routing shape spaces.Port port len value) (pair_write_tells port len value) (ring_tells spaces.Port port len value)
 
   port_in_tells : (port len : ℕ) → Tells Kind most 1 (port_in routing shape port len)
-  port_in_tells port len = elim (is_port port) as (λ t. Tells Kind most 1 (if t then pair_read routing shape port len else reply Exit)) [
-    | true ↦ pair_read_tells port len
-    | false ↦ one_reply (reply Exit) (reply_tells Kind Exit)
-  ]
+  port_in_tells port len = tells_if Kind most 1 (is_port port) (pair_read routing shape port len) (reply Exit) (pair_read_tells port len) (one_reply (reply Exit) (reply_tells Kind Exit))
 
   store_tells : (n address len value : ℕ) → Tells Kind most 1 (store routing shape n address len value)
-  store_tells n address len value = elim (is_ioapic_address address) as (λ t. Tells Kind most 1 (if t then ioapic_store shape (address - 0xfec00000) len value else if is_lapic_address address then lapic_store routing shape n (address - 0xfee00000) len value else ring routing shape spaces.Memory address len value)) [
-    | true ↦ ioapic_store_tells (address - 0xfec00000) len value
-    | false ↦ elim (is_lapic_address address) as (λ t. Tells Kind most 1 (if t then lapic_store routing shape n (address - 0xfee00000) len value else ring routing shape spaces.Memory address len value)) [
-      | true ↦ lapic_store_tells n (address - 0xfee00000) len value
-      | false ↦ ring_tells spaces.Memory address len value
-    ]
-  ]
+  store_tells n address len value =
+      let own = lapic_store routing shape n (address - 0xfee00000) len value in
+      let other = ring routing shape spaces.Memory address len value in
+      tells_if Kind most 1 (is_ioapic_address address) (ioapic_store shape (address - 0xfec00000) len value) (if is_lapic_address address then own else other) (ioapic_store_tells (address - 0xfec00000) len value)
+      (tells_if Kind most 1 (is_lapic_address address) own other (lapic_store_tells n (address - 0xfee00000) len value) (ring_tells spaces.Memory address len value))
 
   load_tells : (n address len : ℕ) → Tells Kind most 1 (load n address len)
-  load_tells n address len = elim (is_ioapic_address address) as (λ t. Tells Kind most 1 (if t then ioapic_load (address - 0xfec00000) len else if is_lapic_address address then lapic_load n (address - 0xfee00000) len else reply Exit)) [
-    | true ↦ ioapic_load_tells (address - 0xfec00000) len
-    | false ↦ elim (is_lapic_address address) as (λ t. Tells Kind most 1 (if t then lapic_load n (address - 0xfee00000) len else reply Exit)) [
-      | true ↦ lapic_load_tells n (address - 0xfee00000) len
-      | false ↦ one_reply (reply Exit) (reply_tells Kind Exit)
-    ]
-  ]
+  load_tells n address len =
+      let own = lapic_load n (address - 0xfee00000) len in
+      tells_if Kind most 1 (is_ioapic_address address) (ioapic_load (address - 0xfec00000) len) (if is_lapic_address address then own else reply Exit) (ioapic_load_tells (address - 0xfec00000) len)
+      (tells_if Kind most 1 (is_lapic_address address) own (reply Exit) (lapic_load_tells n (address - 0xfee00000) len) (one_reply (reply Exit) (reply_tells Kind Exit)))
 
 -- ---- every call
 

@@ -1,21 +1,12 @@
 -- The pins that one call acknowledges have different GSIs.
-use Rattle.std.proofs.Common.{◌≡◌, ℕ, zero, suc, ◌+◌, ◌≤◌, Bool, true, false, cond, nat_eq, nat_lt, if◌then◌else◌, List, [], ◌∷◌, ◌++◌, length, map, refl, sym, ap, ◌∙◌, subst, arith, Some, None}
+use Rattle.board_step.proofs.Basics.{◌≡◌, ℕ, zero, suc, ◌+◌, ◌≤◌, Bool, true, false, cond, nat_eq, nat_lt, if◌then◌else◌, List, [], ◌∷◌, ◌++◌, length, map, refl, sym, ap, ◌∙◌, subst, arith, Some, None, Option, nat_tests}
+use Rattle.board_step.proofs.Types.{Pin, Targets, Pair, Slave}
+use Rattle.board_step.proofs.Chips.{top_of, level_acknowledged, slave_pin, master_top, acked_pins, slave_cycle, cycle_by, cycle, Table, targets_of, has_pin, gsi_of}
+use Rattle.board_step.proofs.Calls.{numbers_below, pic_pin, cycle_pins}
 use Rattle.std.specs.List.{find}
 use Rattle.std.specs.FinMap as finmap
-use Rattle.std.specs.declared.option.Option.{Option}
-use Rattle.std.proofs.lemmas.Bool.Decides.{nat_tests}
-use Rattle.irq_base.specs.declared.event.Pin.{Pin}
 use Rattle.irq_base.specs.declared.event.Pin.TheVariants.{Pic, Ioapic}
-use Rattle.irq_base.specs.declared.message.Targets.{Targets}
-use Rattle.pic_8259a.specs.declared.pair.Pair.{Pair}
-use Rattle.pic_8259a.specs.declared.chip.Place.TheVariants.{Slave}
-use Rattle.pic_8259a.specs.Priority.{top_of}
-use Rattle.pic_8259a.specs.Accesses.{level_acknowledged}
-use Rattle.pic_8259a.specs.Pair.{slave_pin, master_top, acked_pins, slave_cycle, cycle_by, cycle}
-use Rattle.route_table.specs.Rows.{Table, is_same, targets_of}
-use Rattle.route_table.specs.Pins.{has_pin, gsi_of}
-use Rattle.board_raise.specs.Send.{numbers_below}
-use Rattle.board_calls.specs.Processors.{pic_pin, cycle_pins}
+use Rattle.route_table.specs.Rows.{is_same}
 use Rattle.board_step.proofs.CountingRows.{total, total_at_most, counted_at, AreApart, again_total}
 
 -- ---- a pin of a GSI is the one that its targets have
@@ -91,8 +82,7 @@ ioapic_apart table n place =
 
 -- a test counts one at most
 one_at_most : (t : Bool) → (if t then 1 else 0) ≤ 1
-one_at_most true = omega arith
-one_at_most false = omega arith
+one_at_most t = grind arith
 
 -- pins of the pair, two at most, whose GSIs differ
 pub record FewOfPair (table : Table) (pins : List Pin) : Type 0 where
@@ -111,8 +101,7 @@ module _ (table : Table) where
   two_of_pair a b differ = record { apart = λ place. omega (arith, pins_count table place (Pic a ∷ Pic b ∷ []), one_of (targets_of table place).pic); few = omega arith; never_again = refl }
     where
       one_of : (pin : Option ℕ) → (if is_same pin (Some a) then 1 else 0) + ((if is_same pin (Some b) then 1 else 0) + 0) ≤ 1
-      one_of None = omega arith
-      one_of (Some k) = grind (arith, nat_tests, differ)
+      one_of pin = grind arith
 
   -- one pin, if there is one
   pub pin_of_pair : (pin : Option ℕ) → FewOfPair table (pic_pin pin)

@@ -1,18 +1,8 @@
 -- The rows of different GSIs are different rows: the events of acknowledges of pins whose GSIs differ are few.
-use Rattle.std.proofs.Common.{◌≡◌, ℕ, ◌+◌, ◌≤◌, Bool, true, false, cond, nat_eq, if◌then◌else◌, List, [], ◌∷◌, length, map, filter, refl, sym, ap, ◌∙◌, subst, arith, Some, None}
-use Rattle.std.specs.Prelude.{is_some}
-use Rattle.std.specs.List.{cons_option}
-use Rattle.std.proofs.lemmas.Bool.Decides.{nat_tests}
-use Rattle.std.specs.declared.option.Option.{Option}
-use Rattle.irq_base.specs.declared.event.Event.TheVariants.{Resampled, Watched}
-use Rattle.irq_base.specs.declared.event.Pin.{Pin}
-use Rattle.irq_base.specs.declared.shape.Shape.{Shape}
-use Rattle.irqfd_set.specs.declared.irqfds.Irqfd.{Irqfd}
-use Rattle.resampler.specs.Resample.{resampled, resample_events}
-use Rattle.ack_notifiers.specs.declared.watches.Watch.{Watch}
-use Rattle.ack_notifiers.specs.Rows.{watch_events}
-use Rattle.board_model.specs.Registry.{RegistryPart}
-use Rattle.board_model.specs.Routing.{Routing}
+use Rattle.board_step.proofs.Basics.{◌≡◌, ℕ, ◌+◌, ◌≤◌, Bool, true, false, cond, nat_eq, if◌then◌else◌, List, [], ◌∷◌, length, map, filter, refl, sym, ap, ◌∙◌, subst, arith, Some, None, is_some, cons_option, Option}
+use Rattle.board_step.proofs.Types.{Resampled, Watched, Pin, Shape, Irqfd, Watch}
+use Rattle.board_step.proofs.Chips.{resampled, resample_events, watch_events}
+use Rattle.board_step.proofs.Plans.{RegistryPart, Routing}
 use Rattle.board_ack.proofs.Counting.{rows_for, ticks_for, again_for, each_events}
 
 -- ---- totals over a list
@@ -127,11 +117,7 @@ rows_for-count registry None = omega (arith, total_zero registry.irqfds, total_z
 rows_for-count registry (Some gsi) = omega (arith, resample_events-count gsi registry.irqfds, watch_events-count gsi registry.watches)
 
 ticks_for-count : (shape : Shape) (gsi : Option ℕ) → ticks_for shape gsi ≡ counted_at shape.tick 1 gsi
-ticks_for-count shape None = refl
-ticks_for-count shape (Some gsi) = ap (λ t. if t then 1 else 0) (either_way gsi shape.tick)
-  where
-    either_way : (a b : ℕ) → nat_eq a b ≡ nat_eq b a
-    either_way a b = grind (arith, nat_tests)
+ticks_for-count shape gsi = grind arith
 
 total_ones : {X : Type 0} (xs : List X) → total (λ x. 1) xs ≡ length xs
 total_ones [] = refl

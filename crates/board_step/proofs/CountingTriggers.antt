@@ -1,19 +1,14 @@
 -- A sound registry has at most 255 irqfds with a resample counter: their triggers differ, and no resample counter is a trigger.
-use Rattle.std.proofs.Common.{◌≡◌, ℕ, suc, ◌+◌, ◌≤◌, ◌<◌, Bool, true, false, ◌||◌, nat_eq, if◌then◌else◌, List, [], ◌∷◌, length, map, All, Any, eqb, get_or, ◌⊎◌, inl, inr, true≢false, refl, sym, ap, ◌∙◌, subst, arith, suc-le-suc, zero-le, Some, None}
-use Rattle.std.specs.Prelude.{is_some, AllPairs, IfSome}
-use Rattle.std.specs.List.{list_any, IsDistinct, AllByRecursion}
-use Rattle.std.specs.declared.option.Option.{Option}
-use Rattle.std.proofs.lemmas.Bool.Decides.{nat_tests}
-use Rattle.std.proofs.lemmas.List.Elements.{All-head, All-tail}
+use Rattle.board_step.proofs.Basics.{◌≡◌, ℕ, suc, ◌+◌, ◌≤◌, ◌<◌, Bool, true, false, ◌||◌, nat_eq, if◌then◌else◌, List, [], ◌∷◌, length, map, All, get_or, ◌⊎◌, inl, inr, refl, sym, ap, ◌∙◌, subst, arith, Some, None, is_some, AllPairs, IfSome, list_any, AllByRecursion, Option, nat_tests, All-head, All-tail}
+use Rattle.board_step.proofs.Types.{Irqfd}
+use Rattle.board_step.proofs.Chips.{has_trigger}
+use Rattle.board_step.proofs.Plans.{RegistryPart}
+use Rattle.board_step.proofs.Calls.{RegistrationsFit, is_counter, has_resample}
+use Rattle.std.proofs.Common.{Any, eqb, suc-le-suc, zero-le}
+use Rattle.std.specs.List.{IsDistinct}
 use Rattle.std.proofs.lemmas.List.Folds.{list_any-from_Any}
 use Rattle.std.proofs.lemmas.Map.Keys.{IsDistinct-cons}
 use Rattle.std.proofs.lemmas.Map.Steps.{length-le_from_distinct_below}
-use Rattle.irqfd_set.specs.declared.irqfds.Irqfd.{Irqfd}
-use Rattle.irqfd_set.specs.Rows.{has_trigger}
-use Rattle.ack_notifiers.specs.Rows as watches
-use Rattle.board_model.specs.Registry.{RegistryPart}
-use Rattle.board_raise.specs.Fit.{RegistrationsFit}
-use Rattle.board_calls.specs.Refusals.{is_counter, has_resample, is_signalled}
 use Rattle.board_step.specs.Sound.{AreDistinct}
 use Rattle.board_step.proofs.CountingRows.{total, resample_weight, resamplers}
 
@@ -125,11 +120,7 @@ module _ (counters : ℕ) (registry : RegistryPart) (few : counters ≤ 256) (fi
       row = get_or registry.irqfds k d
 
       by_test : (t : Bool) → nat_eq counter row.trigger ≡ t → t ≡ false
-      by_test false _ = refl
-      by_test true same =
-          let e : counter ≡ row.trigger = grind (same, arith) in
-          let signalled : is_signalled registry row.trigger ≡ true = ap (λ t. t || watches.has_counter registry.watches row.trigger) (subst (λ n. list_any (has_resample n) registry.irqfds ≡ true) e resamples) in
-          absurd (true≢false (sym signalled ∙ distinct.roles k d within))
+      by_test t h1 = grind arith
 
   pub few_resamplers : resamplers registry ≤ 255
   few_resamplers = elim (some_resample registry.irqfds) [

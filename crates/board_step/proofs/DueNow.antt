@@ -1,32 +1,18 @@
 -- An Ack answers what is due.
-use Rattle.std.proofs.Common.{◌≡◌, ℕ, ◌<◌, zero, suc, Bool, true, false, true≢false, ◌&&◌, if◌then◌else◌, List, [], ◌∷◌, ◌++◌, map, length, slice_get, is_some, Some, None, refl, sym, ap, ◌∙◌, arith}
-use Rattle.std.specs.Prelude.{IfSome, option_map, unwrap_or}
-use Rattle.std.specs.declared.option.Option.{Option}
-use Rattle.irq_base.specs.declared.call.Call.TheVariants.{Ack}
-use Rattle.irq_base.specs.declared.call.Caller.TheVariants.{Cpu}
-use Rattle.irq_base.specs.declared.reply.Reply.{Reply}
+use Rattle.board_step.proofs.Basics.{◌≡◌, ℕ, ◌<◌, zero, suc, Bool, true, false, true≢false, ◌&&◌, if◌then◌else◌, List, [], ◌∷◌, ◌++◌, map, length, Some, None, refl, sym, ap, ◌∙◌, arith, IfSome, unwrap_or, Option}
+use Rattle.board_step.proofs.Types.pic
+use Rattle.board_step.proofs.Types.{Ack, Cpu, Reply, Pic, Lapic, Pair}
+use Rattle.board_step.proofs.Chips.{has_output, Cycle, cycle, Holds, LocalApic, power_on, giveable_of}
+use Rattle.board_step.proofs.Plans.{Board, part_of, with_part, pair_of, with_pair, flat, Routing, routing_of_registry, Plan, reply, ◌>>◌, Wishes, Outcome, run}
+use Rattle.board_step.proofs.Calls.{PairFits, acknowledge_each, cycle_pins, cycle_made, give, given_reply, hears_pair, give_of_pair, take_nmi}
+use Rattle.std.proofs.Common.{slice_get, is_some}
+use Rattle.std.specs.Prelude.{option_map}
 use Rattle.irq_base.specs.declared.reply.Reply.TheVariants as replies
-use Rattle.irq_base.specs.declared.shape.Part.TheVariants.{Pic, Lapic}
-use Rattle.pic_8259a.specs.declared.pair.Pair.{Pair}
-use Rattle.pic_8259a.specs.Pair.{has_output, Cycle, cycle}
-use Rattle.source_levels.specs.Holds.{Holds}
-use Rattle.lapic.specs.Registers.{LocalApic, power_on}
-use Rattle.lapic.specs.Priority.{giveable_of}
-use Rattle.board_model.specs.Board.{Board, part_of, with_part}
-use Rattle.board_model.specs.Chips.{pair_of, with_pair}
-use Rattle.board_model.specs.Hand.{flat}
-use Rattle.board_raise.specs.declared.parts.PicPart as pic
-use Rattle.board_raise.specs.Fit.{PairFits}
 use Rattle.board_raise.specs.InHand.{pic_of}
 use Rattle.board_raise.specs.OnRow.{apic_in}
-use Rattle.board_model.specs.Routing.{Routing, routing_of_registry}
-use Rattle.board_model.specs.Plan.{Plan, reply, ◌>>◌}
-use Rattle.board_model.specs.Run.{Wishes, Outcome, run}
 use Rattle.board_model.proofs.Sequence.{run-bind}
-use Rattle.board_ack.specs.Acknowledge.{acknowledge_each}
 use Rattle.board_step.specs.declared.due.Due.{Due}
 use Rattle.board_step.specs.declared.due.Due.TheVariants as dues
-use Rattle.board_calls.specs.Processors.{cycle_pins, cycle_made, give, given_reply, hears_pair, give_of_pair, take_nmi}
 use Rattle.board_step.specs.declared.board.Board.TheInside.{Inside}
 use Rattle.board_step.specs.History.{opening_pic}
 use Rattle.board_step.specs.Owned.{board_in, IsKept}

@@ -1,19 +1,11 @@
 -- What a face over a board on one thread keeps.
-use Rattle.std.proofs.Common.{◌≡◌, ℕ, ◌+◌, ◌-◌, ◌<◌, ◌≤◌, Bool, true, false, true≢false, ◌&&◌, nat_eq, if◌then◌else◌, List, Some, None, refl, sym, ap, ◌∙◌, subst, arith}
-use Rattle.std.proofs.lemmas.Bool.Decides.{nat_tests}
-use Rattle.std.specs.declared.option.Option.{Option}
+use Rattle.board_step.proofs.Basics.{◌≡◌, ℕ, ◌+◌, ◌-◌, ◌<◌, ◌≤◌, Bool, true, false, true≢false, ◌&&◌, nat_eq, if◌then◌else◌, List, Some, None, refl, sym, ap, ◌∙◌, subst, arith, nat_tests, Option}
+use Rattle.board_step.proofs.Types.calls
+use Rattle.board_step.proofs.Types.{Call, Caller, Event, Entry, Refusal, Spent, Calls, Publications}
+use Rattle.board_step.proofs.Plans.{Board}
 use Rattle.irq_base.specs.Callers.{is_there}
 use Rattle.irq_base.specs.Faces.{may_publish}
-use Rattle.irq_base.specs.declared.call.Call.{Call}
-use Rattle.irq_base.specs.declared.call.Call.TheVariants as calls
-use Rattle.irq_base.specs.declared.call.Caller.{Caller}
-use Rattle.irq_base.specs.declared.event.Event.{Event}
-use Rattle.irq_base.specs.declared.lists.Entry.{Entry}
-use Rattle.irq_base.specs.declared.refusal.Refusal.{Refusal}
 use Rattle.irq_base.specs.declared.reply.Done.{Done}
-use Rattle.irq_base.specs.declared.reply.Spent.{Spent}
-use Rattle.irq_base.specs.declared.reply.Spent.TheVariants.{Calls, Publications}
-use Rattle.board_model.specs.Board.{Board}
 use Rattle.board_step.specs.Applied.{Applied, is_reached}
 use Rattle.board_step.specs.Bodies.{entry_of}
 use Rattle.board_step.specs.Publications.{KeepsTheFrame}
@@ -65,21 +57,7 @@ never_barred b call spent is left quiet = some_none spent (sym is ∙ (λ i. if 
     unless None (calls.Deassign trigger gsi) quiet = absurd (true≢false quiet)
     unless None (calls.Watch counter gsi) quiet = absurd (true≢false quiet)
     unless None (calls.Unwatch counter gsi) quiet = absurd (true≢false quiet)
-    unless None (calls.Line gsi line high) quiet = refl
-    unless None (calls.Msi address payload) quiet = refl
-    unless None (calls.Write counter n) quiet = refl
-    unless None (calls.Take counter) quiet = refl
-    unless None (calls.Attach space address len counter want) quiet = refl
-    unless None (calls.Detach space address len counter want) quiet = refl
-    unless None calls.Tick quiet = refl
-    unless None (calls.TickMode reinject) quiet = refl
-    unless None (calls.PortOut port len value) quiet = refl
-    unless None (calls.PortIn port len) quiet = refl
-    unless None (calls.Store address len value) quiet = refl
-    unless None (calls.Load address len) quiet = refl
-    unless None calls.Ack quiet = refl
-    unless None calls.Inta quiet = refl
-    unless None calls.Eoi quiet = refl
+    unless None _ quiet = refl
 
     no_publication : would_publish b call ≡ false
     no_publication = unless (refusal_of b call) call quiet

@@ -1,16 +1,10 @@
 -- A board in code follows an entry exactly where it is a step.
-use Rattle.std.proofs.Common.{◌≡◌, ◌+◌, ◌<◌, ◌≤◌, ◌↔◌, Bool, IsTrue, List, [], ◌∷◌, length, Some, None, sym, ap, ◌∙◌, subst, arith}
-use Rattle.irq_base.specs.Room.{with_told}
-use Rattle.irq_base.specs.declared.call.Call.{Call}
-use Rattle.irq_base.specs.declared.call.Caller.{Caller}
-use Rattle.irq_base.specs.declared.event.Event.{Event}
-use Rattle.irq_base.specs.declared.lists.Entry.{Entry}
+use Rattle.board_step.proofs.Basics.{◌≡◌, ◌+◌, ◌<◌, ◌≤◌, Bool, List, [], ◌∷◌, length, Some, None, sym, ap, ◌∙◌, subst, arith}
+use Rattle.board_step.proofs.Types.{with_told, Call, Caller, Event, Entry, Reply, Spent}
+use Rattle.board_step.proofs.Plans.{Board, Wishes, Log}
+use Rattle.std.proofs.Common.{◌↔◌, IsTrue}
 use Rattle.irq_base.specs.declared.reply.Done.{Done}
-use Rattle.irq_base.specs.declared.reply.Reply.{Reply}
-use Rattle.irq_base.specs.declared.reply.Spent.{Spent}
 use Rattle.irq_base.proofs.Room.{told-fits}
-use Rattle.board_model.specs.Board.{Board}
-use Rattle.board_model.specs.Run.{Wishes, Log}
 use Rattle.board_step.specs.Applied.{Applied, LeadsOn, Ran}
 use Rattle.board_step.specs.Bodies.{entry_of}
 use Rattle.board_step.specs.History.{wishes_shown}

@@ -1,14 +1,10 @@
 -- The choices of calls can be followed by what an entry shows.
-use Rattle.std.proofs.Common.{◌≡◌, true, not, List, [], ◌∷◌, ◌++◌, refl, sym, ap, ◌∙◌, append-nil}
-use Rattle.irq_base.specs.declared.call.Call.{Call}
-use Rattle.irq_base.specs.declared.call.Caller.{Caller}
-use Rattle.irq_base.specs.declared.lists.Entry.{Entry}
-use Rattle.board_model.specs.Board.{Board}
-use Rattle.board_model.specs.Routing.{routing_of_registry}
-use Rattle.board_model.specs.Following.{shown_wishes, IsSteady}
+use Rattle.board_step.proofs.Basics.{◌≡◌, true, not, List, [], ◌∷◌, ◌++◌, refl, sym, ap, ◌∙◌, append-nil}
+use Rattle.board_step.proofs.Types.{Call, Caller, Entry}
+use Rattle.board_step.proofs.Plans.{Board, routing_of_registry, shown_wishes, Log}
+use Rattle.board_model.specs.Following.{IsSteady}
 use Rattle.board_model.proofs.Followed.{shown_followed}
 use Rattle.board_raise.proofs.Manner.{Manner, Keeps, steady_of}
-use Rattle.board_model.specs.Run.{Log}
 use Rattle.board_step.specs.Laws.{StepsAreFollowed}
 use Rattle.board_step.specs.Step.{plan_on, outcome_of, counted, Step}
 use Rattle.board_step.specs.History.{wish_replied, wishes_told, wishes_shown, next_board, Leads, board_after}

@@ -1,23 +1,18 @@
 -- The parts at power-on that the code makes; and what parts of a sound board fit.
-use Rattle.std.proofs.Common.{◌≡◌, ℕ, ◌+◌, ◌-◌, ◌<◌, zero, suc, List, [], ◌∷◌, ◌++◌, map, length, replicate, slice_get, slice_set, Some, None, IfSome, refl, sym, ap, ◌∙◌, subst, arith, add-one}
-use Rattle.std.proofs.lemmas.List.{length-map, length-append, length-replicate, map-append}
-use Rattle.std.specs.Prelude.{unwrap_or}
-use Rattle.std.specs.FinSet as set
-use Rattle.std.specs.declared.option.Option.{Option}
+use Rattle.board_step.proofs.Basics.set
+use Rattle.board_step.proofs.Basics.{◌≡◌, ℕ, ◌+◌, ◌-◌, ◌<◌, zero, suc, List, [], ◌∷◌, ◌++◌, map, length, replicate, Some, None, refl, sym, ap, ◌∙◌, subst, arith, add-one, length-replicate, unwrap_or, Option}
+use Rattle.board_step.proofs.Types.pic
+use Rattle.board_step.proofs.Types.{Shape, BoardRig}
+use Rattle.board_step.proofs.Chips.{LocalApic, power_on}
+use Rattle.board_step.proofs.Plans.{Board, flat, all_parts, published}
+use Rattle.board_step.proofs.Calls.{parts_of, InLimits, Fits, PairFits, PinsFit, numbers_below}
+use Rattle.std.proofs.Common.{slice_get, slice_set, IfSome}
+use Rattle.std.proofs.lemmas.List.{length-map, length-append, map-append}
 use Rattle.pic_8259a.specs.Pair.{pair_at_power_on}
 use Rattle.ioapic_82093aa.specs.Pins.{ioapic_at_power_on}
-use Rattle.lapic.specs.Registers.{LocalApic, power_on}
-use Rattle.board_model.specs.Board.{Board}
 use Rattle.board_model.specs.Chips.{without_pins}
-use Rattle.board_model.specs.Hand.{flat, all_parts}
-use Rattle.irq_base.specs.declared.shape.Shape.{Shape}
-use Rattle.board_model.specs.Published.{published}
-use Rattle.board_raise.specs.declared.board_rig.BoardRig.{BoardRig}
-use Rattle.board_raise.specs.InHand.{parts_of}
-use Rattle.board_raise.specs.declared.parts.PicPart as pic
 use Rattle.board_raise.specs.declared.parts.IoPart as io
-use Rattle.board_raise.specs.Fit.{InLimits, Fits, Pins, PairFits, IoapicFits, PinsFit}
-use Rattle.board_raise.specs.Send.{numbers_below}
+use Rattle.board_raise.specs.Fit.{Pins, IoapicFits}
 use Rattle.board_step.specs.Sound.{IsSound}
 use Rattle.board_step.specs.History.{opening}
 use Rattle.board_step.specs.Whole.{IsWhole, board_of}

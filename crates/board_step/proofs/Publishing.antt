@@ -1,29 +1,16 @@
 -- A step shows in its entry whether it is a publication; a publication reaches the registry; a step keeps the frame.
-use Rattle.std.proofs.Common.{◌≡◌, ℕ, ◌+◌, Bool, true, false, not, ◌&&◌, if◌then◌else◌, cond, List, [], ◌∷◌, ◌++◌, length, is_some, Some, None, refl, sym, ap, ◌∙◌, arith, zero-add}
+use Rattle.board_step.proofs.Basics.{◌≡◌, ℕ, ◌+◌, Bool, true, false, not, ◌&&◌, if◌then◌else◌, cond, List, [], ◌∷◌, ◌++◌, length, Some, None, refl, sym, ap, ◌∙◌, arith, Option}
+use Rattle.board_step.proofs.Types.calls
+use Rattle.board_step.proofs.Types.{Reason, first_of, Call, Caller, Refusal, Reply, Done, Removed, Refused, Nothing, Registry, Irqfd}
+use Rattle.board_step.proofs.Chips.irqfds
+use Rattle.board_step.proofs.Plans.{Board, Routing, routing_of_registry, Plan, reply, ◌>>◌, Wishes, Outcome, run}
+use Rattle.board_step.proofs.Calls.{of_acknowledge_each, range_reasons, unless_refused, inject_count, assigned, was_last_resampler, release, deassigned, number_of, plan_in_range}
+use Rattle.std.proofs.Common.{is_some, zero-add}
 use Rattle.std.specs.Prelude.{count_by}
 use Rattle.std.proofs.lemmas.List.Sums.{sum_by-cons}
-use Rattle.std.specs.declared.option.Option.{Option}
-use Rattle.irq_base.specs.Refusals.{Reason, first_of}
-use Rattle.irq_base.specs.declared.call.Call.{Call}
-use Rattle.irq_base.specs.declared.call.Call.TheVariants as calls
-use Rattle.irq_base.specs.declared.call.Caller.{Caller}
-use Rattle.irq_base.specs.declared.refusal.Refusal.{Refusal}
-use Rattle.irq_base.specs.declared.reply.Reply.{Reply}
-use Rattle.irq_base.specs.declared.reply.Reply.TheVariants.{Done, Removed, Refused, Nothing}
-use Rattle.irq_base.specs.declared.shape.Part.TheVariants.{Registry}
-use Rattle.irqfd_set.specs.declared.irqfds.Irqfd.{Irqfd}
-use Rattle.irqfd_set.specs.Rows as irqfds
-use Rattle.board_model.specs.Board.{Board}
-use Rattle.board_model.specs.Routing.{Routing, routing_of_registry}
-use Rattle.board_model.specs.Plan.{Plan, reply, ◌>>◌}
-use Rattle.board_model.specs.Run.{Wishes, Outcome, run}
 use Rattle.board_model.specs.Agreement.{SameFrame}
 use Rattle.board_model.proofs.Sequence.{run-bind}
 use Rattle.board_model.proofs.Staying.{frame_stays}
-use Rattle.board_ack.specs.ReachLaws.{of_acknowledge_each}
-use Rattle.board_calls.specs.Refusals.{range_reasons}
-use Rattle.board_calls.specs.Registrations.{unless_refused, inject_count, assigned, was_last_resampler, release, deassigned}
-use Rattle.board_calls.specs.Calls.{number_of, plan_in_range}
 use Rattle.board_step.specs.Step.{later_reasons, refusal_of, does_publish, publishes_unless, would_publish, plan_on, outcome_of, with_counts, counted, is_done, is_removed, did_publish, is_publication}
 use Rattle.board_step.specs.Reach.{reach, of_call}
 use Rattle.board_step.specs.History.{opening}
@@ -91,12 +78,7 @@ module _ (b : Board) (caller : Caller) (ws : Wishes) where
 
   -- a refusal is no publication
   refused_publishes : (call : Call) (refusal : Refusal) → did_publish call (Refused refusal) ≡ false
-  refused_publishes (calls.Reroute rows) refusal = refl
-  refused_publishes (calls.Assign trigger gsi resample) refusal = refl
-  refused_publishes (calls.Watch counter gsi) refusal = refl
-  refused_publishes (calls.Unwatch counter gsi) refusal = refl
-  refused_publishes (calls.Deassign trigger gsi) refusal = refl
-  refused_publishes _ refusal = refl
+  refused_publishes call refusal = grind arith
 
   shows : (call : Call) (r : Reply) → answers_of (plan_on b caller call) ≡ r ∷ [] → would_publish b call ≡ did_publish call r
   shows call r answers = by_refusal (refusal_of b call) refl
@@ -115,12 +97,7 @@ steps_show_publications b e c step = shows b e.caller step.wishes e.call e.reply
 -- ---- the registry is reached
 
 reaches_in_range : (b : Board) (n : ℕ) (call : Call) → does_publish b call ≡ true → of_call of_acknowledge_each (routing_of_registry b.registry b.shape.tick) b.shape b n call Registry ≡ true
-reaches_in_range b n (calls.Reroute rows) is = refl
-reaches_in_range b n (calls.Assign trigger gsi resample) is = refl
-reaches_in_range b n (calls.Watch counter gsi) is = refl
-reaches_in_range b n (calls.Unwatch counter gsi) is = refl
-reaches_in_range b n (calls.Deassign trigger gsi) is = refl
-reaches_in_range b n _ is = cc
+reaches_in_range b n call h1 = grind arith
 
 pub publications_reach_the_registry : PublicationsReachTheRegistry
 publications_reach_the_registry b caller call = by_refusal (refusal_of b call) refl
@@ -184,8 +161,7 @@ histories_keep_the_frame b (e ∷ es) c (next, step, later) =
     by_entry : (t : Bool) → next.publications ≡ (if t then b.publications + 1 else b.publications)
         → c.publications ≡ next.publications + count_by is_publication es
         → c.publications ≡ b.publications + (cond t 1 0 + count_by is_publication es)
-    by_entry true one rest = omega arith
-    by_entry false one rest = omega arith
+    by_entry t h1 h2 = grind arith
 
 pub legal_histories_count : LegalHistoriesCount
 legal_histories_count shape es last leads =

@@ -1,50 +1,23 @@
 -- What accesses of the guest reach is what the table says, whatever is wished.
-use Rattle.std.proofs.Common.{◌≡◌, ℕ, Bool, true, false, cond, not, ◌&&◌, ◌||◌, nat_eq, ◌-◌, if◌then◌else◌, List, [], ◌∷◌, refl, ap, ◌∙◌, Some, None, true≢false, sym}
-use Rattle.std.specs.Prelude.{drop, is_some, ◌==◌}
-use Rattle.std.specs.List.{find, list_all}
-use Rattle.std.specs.declared.option.Option.{Option}
-use Rattle.irq_bits.specs.Members.{greatest_vector}
-use Rattle.irq_base.specs.declared.call.Call.TheVariants as calls
-use Rattle.irq_base.specs.declared.call.Space.{Space}
-use Rattle.irq_base.specs.declared.call.Space.TheVariants as spaces
-use Rattle.irq_base.specs.declared.event.Pin.{Pin}
-use Rattle.irq_base.specs.declared.message.Source.{Source}
-use Rattle.irq_base.specs.declared.refusal.Refusal.{Refusal}
-use Rattle.irq_base.specs.declared.reply.Reply.{Reply}
-use Rattle.irq_base.specs.declared.reply.Reply.TheVariants.{Done, Value, Exit}
-use Rattle.irq_base.specs.declared.shape.Part.{Part}
-use Rattle.irq_base.specs.declared.shape.Part.TheVariants.{Registry, Counters, Pic, Ioapic, Lapic}
-use Rattle.irq_base.specs.declared.shape.Shape.{Shape}
-use Rattle.pic_8259a.specs.declared.pair.Pair.{Pair}
-use Rattle.pic_8259a.specs.Accesses.{Effect, Read}
-use Rattle.pic_8259a.specs.Pair.{is_port, write_to as pair_write_to, read_from as pair_read_from}
-use Rattle.ioapic_82093aa.specs.declared.ioapic.Ioapic.{Ioapic as IoapicChip}
-use Rattle.ioapic_82093aa.specs.Pins.{Written, write_to, resend_of}
-use Rattle.lapic.specs.declared.outcome.Effect.TheVariants as effects
-use Rattle.lapic.specs.declared.outcome.Effect.{Effect as LapicEffect}
-use Rattle.lapic.specs.Registers.{LocalApic, row_for, all_registers, register_at}
-use Rattle.lapic.specs.Priority.{without_service, ended}
-use Rattle.lapic.specs.Offsets.{effect_at, stored_at, store_effect, store_to}
-use Rattle.ioevent_set.specs.Rows.{rung_by}
-use Rattle.board_model.specs.declared.trigger.TriggerWord.{TriggerWord}
-use Rattle.board_model.specs.Board.{Board, part_of, with_part, is_same}
-use Rattle.board_model.specs.Chips.{PicPart, pair_of, with_pair, IoapicPart, ioapic_of, with_ioapic}
-use Rattle.board_model.specs.Routing.{Routing}
-use Rattle.board_model.specs.Statuses.{TargetAnswer}
-use Rattle.board_model.specs.Plan.{About, injected, ipi, Plan, done, reply, ◌>>=◌, ◌>>◌}
-use Rattle.board_model.specs.Run.{Wishes, reaches}
+use Rattle.board_step.proofs.Basics.{◌≡◌, ℕ, Bool, true, false, cond, not, ◌&&◌, ◌||◌, nat_eq, ◌-◌, if◌then◌else◌, List, [], ◌∷◌, refl, ap, ◌∙◌, Some, None, true≢false, sym, is_some, list_all, Option}
+use Rattle.board_step.proofs.Types.calls
+use Rattle.board_step.proofs.Types.spaces
+use Rattle.board_step.proofs.Types.effects
+use Rattle.board_step.proofs.Types.{greatest_vector, Space, Pin, Source, Refusal, Reply, Done, Value, Exit, Part, Registry, Counters, Pic, Ioapic, Lapic, Shape, Pair, IoapicChip, LapicEffect, TriggerWord}
+use Rattle.board_step.proofs.Chips.{Effect, Read, is_port, pair_write_to, pair_read_from, Written, write_to, resend_of, LocalApic, register_at, without_service, stored_at, store_effect, store_to, rung_by}
+use Rattle.board_step.proofs.Plans.{Board, part_of, with_part, is_same, PicPart, pair_of, with_pair, IoapicPart, ioapic_of, with_ioapic, Routing, TargetAnswer, About, injected, ipi, Plan, done, reply, ◌>>=◌, ◌>>◌, Wishes, reaches}
+use Rattle.board_step.proofs.Calls.acks
+use Rattle.board_step.proofs.Calls.{send, inject, acknowledge_each, is_ioapic_address, is_lapic_address, unless_refused, source_of, pins_with, end_vector, pic_pin}
+use Rattle.std.specs.Prelude.{drop, ◌==◌}
+use Rattle.std.specs.List.{find}
+use Rattle.lapic.specs.Registers.{row_for, all_registers}
+use Rattle.lapic.specs.Priority.{ended}
+use Rattle.lapic.specs.Offsets.{effect_at}
 use Rattle.board_model.proofs.Sequence.{reaches-bind}
-use Rattle.board_raise.specs.Send.{send}
-use Rattle.board_raise.specs.Signal.{inject}
 use Rattle.board_raise.proofs.Reaching.{or_false, sends_reach}
 use Rattle.board_raise.proofs.SignalReach.{signals_reach_the_same}
 use Rattle.board_raise.proofs.ReachAlike.{heard_of, Alike, alike_lapic}
-use Rattle.board_ack.specs.Acknowledge.{acknowledge_each}
-use Rattle.board_ack.specs.ReachLaws as acks
 use Rattle.board_step.specs.Reach as table
-use Rattle.board_calls.specs.Refusals.{is_ioapic_address, is_lapic_address}
-use Rattle.board_calls.specs.Registrations.{unless_refused, source_of}
-use Rattle.board_calls.specs.Processors.{pins_with, end_vector, pic_pin}
 use Rattle.board_calls.specs.Accesses as accesses
 use Rattle.board_ack.proofs.ReachAcknowledge.{each_same, twice, resend_reach, each_reach}
 

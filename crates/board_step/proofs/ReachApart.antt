@@ -1,40 +1,15 @@
 -- What an acknowledge changes of the I/O APIC is of its own pins: it leaves the others as they are.
-use Rattle.std.proofs.Common.{◌≡◌, ℕ, Bool, true, false, not, ◌&&◌, ◌||◌, nat_eq, nat_lt, if◌then◌else◌, inl, inr, refl, sym, ap, ◌∙◌, subst, arith, Some, None}
+use Rattle.board_step.proofs.Basics.set
+use Rattle.board_step.proofs.Basics.{◌≡◌, ℕ, Bool, true, false, not, ◌&&◌, ◌||◌, nat_eq, nat_lt, if◌then◌else◌, inl, inr, refl, sym, ap, ◌∙◌, subst, arith, Some, None, Option, unsigned_Decides, contains-insert, contains-remove, eq_by_cmp}
+use Rattle.board_step.proofs.Types.pins
+use Rattle.board_step.proofs.Types.raises
+use Rattle.board_step.proofs.Types.{contains-set_below, Pin, Message, MsiWord, Source, Resample, TickSource, Tick, Ioapic, Shape, Raise}
+use Rattle.board_step.proofs.Chips.{entry_at, raise_of, pin_acked, pin_accepted, has_resampler, message_in, PinHolds, hold, hold_cmp, is_high, ack_injects, tick_acked, tick_injected}
+use Rattle.board_step.proofs.Plans.{Board, with_part, IoapicPart, ioapic_of, with_ioapic, Routing, nobody, TargetAnswer, status_of, About, injected, resent, ipi, the_reply, Plan, done, change, ◌>>=◌, ◌>>◌, Wishes, Outcome, run}
+use Rattle.board_step.proofs.Calls.{show, send, ioapic_raised, ioapic_let_go, is_accepted, accept_pin, answer_shown, ioapic_answered, raise_pic, raise_other, raise, let_go, let_go_after, inject, tell_concerned, end_level, end_tick, acknowledge, inject_tick, inject_next, acknowledge_tick, entry_ended}
 use Rattle.std.specs.Prelude.{◌⊎◌}
-use Rattle.std.specs.declared.option.Option.{Option}
-use Rattle.std.specs.FinSet as set
-use Rattle.std.specs.Cmp.{unsigned_Decides}
-use Rattle.std.specs.FinSet.{contains-insert, contains-remove}
-use Rattle.std.specs.Ordering.{eq_by_cmp}
-use Rattle.irq_bits.specs.SetLemmas.{contains-set_below}
-use Rattle.irq_base.specs.declared.event.Pin.{Pin}
-use Rattle.irq_base.specs.declared.event.Pin.TheVariants as pins
-use Rattle.irq_base.specs.declared.message.Message.{Message}
-use Rattle.irq_base.specs.declared.message.MsiWord.{MsiWord}
-use Rattle.irq_base.specs.declared.message.Source.{Source}
-use Rattle.irq_base.specs.declared.message.Source.TheVariants.{Resample, Tick as TickSource}
-use Rattle.irq_base.specs.declared.shape.Part.TheVariants.{Tick, Ioapic}
-use Rattle.irq_base.specs.declared.shape.Shape.{Shape}
-use Rattle.ioapic_82093aa.specs.declared.ioapic.Raise.{Raise}
-use Rattle.ioapic_82093aa.specs.declared.ioapic.Raise.TheVariants as raises
-use Rattle.ioapic_82093aa.specs.Pins.{entry_at, raise_of, pin_acked, pin_accepted}
-use Rattle.irqfd_set.specs.Rows.{has_resampler}
-use Rattle.msi_decode.specs.Messages.{message_in}
-use Rattle.source_levels.specs.Holds.{Holds as PinHolds, hold, hold_cmp, number_of, is_high}
-use Rattle.source_levels.proofs.HoldLemmas.{hold_cmp_total, hold_tied, high_where_held, held_where_high}
-use Rattle.tick_reinject.specs.Ticks.{ack_injects, tick_acked, tick_injected}
-use Rattle.board_model.specs.Board.{Board, with_part}
-use Rattle.board_model.specs.Chips.{IoapicPart, ioapic_of, with_ioapic}
-use Rattle.board_model.specs.Routing.{Routing}
-use Rattle.board_model.specs.Statuses.{nobody, TargetAnswer, status_of}
-use Rattle.board_model.specs.Plan.{About, injected, resent, ipi, the_reply, Plan, done, change, ◌>>=◌, ◌>>◌}
-use Rattle.board_model.specs.Run.{Wishes, Outcome, run}
+use Rattle.source_levels.proofs.HoldLemmas.{hold_cmp_total, high_where_held, held_where_high}
 use Rattle.board_model.proofs.Sequence.{run-bind}
-use Rattle.board_raise.specs.Send.{show, send}
-use Rattle.board_raise.specs.Signal.{ioapic_raised, ioapic_let_go, is_accepted, accept_pin, answer_shown, ioapic_answered, raise_pic, raise_other, raise, let_go, let_go_after, inject}
-use Rattle.board_ack.specs.Acknowledge.{tell_concerned, end_level, end_tick, acknowledge}
-use Rattle.board_ack.specs.Ticks.{inject_tick, inject_next, acknowledge_tick}
-use Rattle.board_ack.specs.OnHand.{entry_ended}
 use Rattle.board_step.specs.ReachNow.{pin_freed, part_freed}
 use Rattle.board_step.proofs.ReachPins.{irr_cleared, irr_accepted, acked_entry, accepted_entry, sent_registry, sent_ioapic, MarksResamplers, told_holds, SentAgain, level_ends}
 
@@ -52,9 +27,7 @@ pub pin_on : {pin : ℕ} {part other last : IoapicPart} → SamePin pin part oth
 pin_on h k = record { entry = k.entry ∙ h.entry; holds = λ source. k.holds source ∙ h.holds source }
 
 same_tests : (a b : Bool) → (a ≡ true → b ≡ true) → (b ≡ true → a ≡ true) → a ≡ b
-same_tests true b f g = sym (f refl)
-same_tests false true f g = g refl
-same_tests false false f g = refl
+same_tests a b h1 h2 = grind arith
 
 high_by_holds : (s t : PinHolds) (pin : ℕ) → ((source : Source) → set.contains t (hold pin source) ≡ set.contains s (hold pin source)) → is_high t pin ≡ is_high s pin
 high_by_holds s t pin same = same_tests _ _
@@ -72,10 +45,7 @@ same_level {pin} {part} {other} h =
 
 module _ (pin at : ℕ) (other : nat_eq at pin ≡ false) (part : IoapicPart) where
   untied : (source own : Source) → eq_by_cmp hold_cmp (hold pin source) (hold at own) ≡ false
-  untied source own = hold_tied (hold pin source) (hold at own) ∙ ap (λ t. t && nat_eq (number_of source) (number_of own)) (other_way at pin other)
-    where
-      other_way : (a b : ℕ) → nat_eq a b ≡ false → nat_eq b a ≡ false
-      other_way a b e = grind (e, arith)
+  untied source own = grind arith
 
   pub raised_pin : (own : Source) → SamePin pin part (ioapic_raised part at own)
   raised_pin own = record {

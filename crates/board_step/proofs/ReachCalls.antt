@@ -1,47 +1,19 @@
 -- What each call reaches is what the table says, whatever is wished.
-use Rattle.std.proofs.Common.{◌≡◌, ℕ, Bool, true, false, not, ◌&&◌, ◌||◌, nat_eq, nat_lt, if◌then◌else◌, [], ◌∷◌, ◌++◌, refl, sym, ap, ◌∙◌, Some, None}
-use Rattle.std.specs.Prelude.{slice_index, is_some}
-use Rattle.std.specs.declared.option.Option.{Option}
-use Rattle.irq_bits.specs.Members.{greatest_vector}
-use Rattle.irq_base.specs.Refusals.{first_of}
-use Rattle.irq_base.specs.declared.call.Call.{Call}
-use Rattle.irq_base.specs.declared.call.Call.TheVariants as calls
-use Rattle.irq_base.specs.declared.message.Source.TheVariants as sources
-use Rattle.irq_base.specs.declared.refusal.Refusal.{Refusal}
-use Rattle.irq_base.specs.declared.reply.Reply.TheVariants.{Done, Removed, Extint, Vector}
-use Rattle.irq_base.specs.declared.shape.Part.{Part}
-use Rattle.irq_base.specs.declared.shape.Part.TheVariants.{Registry, Counters, Tick, Pic, Ioapic, Lapic}
-use Rattle.irq_base.specs.declared.shape.Shape.{Shape}
-use Rattle.pic_8259a.specs.Pair.{has_output, cycle}
-use Rattle.lapic.specs.Registers.{LocalApic}
-use Rattle.msi_decode.specs.Messages.{message_in}
-use Rattle.tick_reinject.specs.declared.state.TickState.{TickState}
-use Rattle.tick_reinject.specs.Ticks.{tick_injects, ticked}
-use Rattle.event_counter.specs.Counters.{taken, written}
-use Rattle.irqfd_set.specs.declared.irqfds.Irqfd.{Irqfd}
-use Rattle.irqfd_set.specs.Rows.{named_row, without_row, with_row}
-use Rattle.ioevent_set.specs.Rows.{rung_by}
-use Rattle.ioevent_set.specs.Rows as ioevents
-use Rattle.ack_notifiers.specs.Rows as watches
-use Rattle.board_model.specs.declared.trigger.TriggerWord.{TriggerWord}
-use Rattle.board_model.specs.Board.{Board, part_of, with_part, is_same}
-use Rattle.board_model.specs.Chips.{pair_of, with_pair}
-use Rattle.board_model.specs.Routing.{Routing, routing_of_registry}
-use Rattle.board_model.specs.Plan.{injected, the_reply, Plan, set, reply, ◌>>◌}
-use Rattle.board_model.specs.Run.{Wishes, reaches}
-use Rattle.board_raise.specs.Send.{send}
-use Rattle.board_raise.specs.Signal.{raise, inject, let_go}
-use Rattle.board_raise.specs.ReachLaws.{of_message, of_fall}
+use Rattle.board_step.proofs.Basics.{◌≡◌, ℕ, Bool, true, false, not, ◌&&◌, ◌||◌, nat_eq, nat_lt, if◌then◌else◌, [], ◌∷◌, ◌++◌, refl, sym, ap, ◌∙◌, Some, None, slice_index, is_some, Option}
+use Rattle.board_step.proofs.Types.calls
+use Rattle.board_step.proofs.Types.sources
+use Rattle.board_step.proofs.Types.{greatest_vector, first_of, Call, Refusal, Done, Removed, Extint, Vector, Part, Registry, Counters, Tick, Pic, Ioapic, Lapic, Shape, TickState, Irqfd, TriggerWord}
+use Rattle.board_step.proofs.Chips.ioevents
+use Rattle.board_step.proofs.Chips.watches
+use Rattle.board_step.proofs.Chips.{has_output, cycle, LocalApic, message_in, tick_injects, ticked, taken, written, named_row, without_row, with_row}
+use Rattle.board_step.proofs.Plans.{Board, part_of, with_part, is_same, pair_of, with_pair, Routing, routing_of_registry, injected, the_reply, Plan, reply, ◌>>◌, Wishes, reaches}
+use Rattle.board_step.proofs.Calls.acks
+use Rattle.board_step.proofs.Calls.{send, raise, inject, let_go, of_message, of_fall, assign_reasons, write_reasons, attach_reasons, detach_reasons, watch_reasons, unwatch_reasons, range_reasons, unless_refused, source_of, assigned, inject_count, was_last_resampler, release, deassigned, tick_or_hold, end_vector, cycle_pins, cycle_made, hears_pair, give, give_of_pair, take_nmi, io_row, number_of, plan_in_range}
+use Rattle.board_model.specs.Plan.{set}
 use Rattle.board_raise.proofs.Reaching.{or_false, sends_reach}
 use Rattle.board_raise.proofs.SignalReach.{signals_reach_the_same}
-use Rattle.board_ack.specs.ReachLaws as acks
 use Rattle.board_step.specs.Reach as table
-use Rattle.board_calls.specs.Refusals.{assign_reasons, write_reasons, attach_reasons, detach_reasons, watch_reasons, unwatch_reasons, range_reasons}
 use Rattle.board_calls.specs.Registrations as registrations
-use Rattle.board_calls.specs.Registrations.{unless_refused, source_of, assigned, inject_count, was_last_resampler, release, deassigned}
-use Rattle.board_calls.specs.Ticks.{tick_or_hold}
-use Rattle.board_calls.specs.Processors.{end_vector, cycle_pins, cycle_made, hears_pair, give, give_of_pair, take_nmi}
-use Rattle.board_calls.specs.Calls.{io_row, number_of, plan_in_range}
 use Rattle.board_step.specs.Laws.{ReachIsTable}
 use Rattle.board_ack.proofs.ReachAcknowledge.{gsi_same, twice, inject_tick_reach}
 use Rattle.board_step.proofs.ReachAccesses.{dropped, replied, refused_reach, within_one, inject_reach, answered_reach, port_out_reach, port_in_reach, ended_reach, store_reach, load_reach}

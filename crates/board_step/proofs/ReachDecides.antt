@@ -1,21 +1,14 @@
 -- A step changes nothing outside its reach, and depends on nothing else but the published words.
-use Rattle.std.proofs.Common.{◌≡◌, Bool, true, false, refl, sym, ap, ◌∙◌, length}
-use Rattle.irq_base.specs.Callers.{is_allowed}
-use Rattle.irq_base.specs.declared.call.Call.{Call}
-use Rattle.irq_base.specs.declared.call.Caller.{Caller}
-use Rattle.irq_base.specs.declared.shape.Part.{Part}
-use Rattle.irq_base.specs.declared.shape.Part.TheVariants.{Registry, Counters, Tick, Pic, Ioapic, Lapic}
-use Rattle.board_model.specs.Board.{Board, part_of}
-use Rattle.board_model.specs.Routing.{routing_of_registry}
-use Rattle.board_model.specs.Run.{run, reaches}
+use Rattle.board_step.proofs.Basics.{◌≡◌, Bool, true, false, refl, sym, ap, ◌∙◌, length}
+use Rattle.board_step.proofs.Types.{is_allowed, Call, Caller, Part, Registry}
+use Rattle.board_step.proofs.Plans.{Board, part_of, routing_of_registry, run, reaches, RegistryPart}
+use Rattle.board_step.proofs.Calls.{plan_of}
 use Rattle.board_model.specs.Agreement.{RunsAlike}
 use Rattle.board_model.proofs.Alike.{agreeing_alike}
 use Rattle.board_model.proofs.Staying.{unreached_stays}
-use Rattle.board_model.specs.Registry.{RegistryPart}
 use Rattle.board_model.specs.Laws.{PublishTheSame}
 use Rattle.board_model.proofs.Words.{published_decides}
 use Rattle.board_model.proofs.Tables.{published_decides_the_table}
-use Rattle.board_calls.specs.Calls.{plan_of}
 use Rattle.board_step.specs.Step.{would_publish, with_counts, plan_on, outcome_of, counted}
 use Rattle.board_step.specs.Sound.{IsSound}
 use Rattle.board_step.specs.Laws.{StaysOutsideReach, SamePart, AgreesForCall, DependsOnReach}
@@ -24,18 +17,8 @@ use Rattle.board_step.proofs.ReachCalls.{reach_is_table}
 
 -- to count a call changes no part
 counted_part : (t : Bool) (b : Board) (q : Part) → part_of (with_counts t b) q ≡ part_of b q
-counted_part true b Registry = refl
-counted_part true b Counters = refl
-counted_part true b Tick = refl
-counted_part true b Pic = refl
-counted_part true b Ioapic = refl
-counted_part true b (Lapic n) = refl
-counted_part false b Registry = refl
-counted_part false b Counters = refl
-counted_part false b Tick = refl
-counted_part false b Pic = refl
-counted_part false b Ioapic = refl
-counted_part false b (Lapic n) = refl
+counted_part true b _ = refl
+counted_part false b _ = refl
 
 pub stays_outside_reach : StaysOutsideReach
 stays_outside_reach b e c q step outside =
@@ -48,11 +31,7 @@ whole_part : (b d : Board) → PublishTheSame b.registry d.registry b.shape.tick
 whole_part b d both Registry same =
     let table = published_decides_the_table b.registry d.registry b.shape.tick d.shape.tick both in
     λ i. record { table = table i; irqfds = same.irqfds i; watches = same.watches i; ioevents = same.ioevents i }
-whole_part b d both Counters same = same
-whole_part b d both Tick same = same
-whole_part b d both Pic same = same
-whole_part b d both Ioapic same = same
-whole_part b d both (Lapic n) same = same
+whole_part b d both _ same = same
 
 -- parts that are equal are the same
 pub equal_part : (b d : Board) (q : Part) → part_of b q ≡ part_of d q → SamePart b d q
@@ -61,11 +40,7 @@ equal_part b d Registry same = record {
   watches = ap (λ (r : RegistryPart). r.watches) same;
   ioevents = ap (λ (r : RegistryPart). r.ioevents) same;
 }
-equal_part b d Counters same = same
-equal_part b d Tick same = same
-equal_part b d Pic same = same
-equal_part b d Ioapic same = same
-equal_part b d (Lapic n) same = same
+equal_part b d _ same = same
 
 -- boards of one shape that publish the same words have one plan for a call
 one_plan : (b d : Board) (caller : Caller) (call : Call) → IsSound b → IsSound d → AgreesForCall b d caller call → plan_on d caller call ≡ plan_on b caller call

@@ -1,39 +1,15 @@
 -- What acknowledges of pins of different GSIs reach, one after another, is told by the board before the first.
-use Rattle.std.proofs.Common.{◌≡◌, ℕ, Bool, true, false, not, ◌&&◌, ◌||◌, nat_eq, if◌then◌else◌, List, [], ◌∷◌, inl, inr, refl, sym, ap, ◌∙◌, subst, Some, None}
+use Rattle.board_step.proofs.Basics.{◌≡◌, ℕ, Bool, true, false, not, ◌&&◌, ◌||◌, nat_eq, if◌then◌else◌, List, [], ◌∷◌, inl, inr, refl, sym, ap, ◌∙◌, subst, Some, None, unsigned_Decides, Option, contains-remove, eq_by_cmp}
+use Rattle.board_step.proofs.Types.pins
+use Rattle.board_step.proofs.Types.{Pin, Message, MsiWord, Resample, Part, Tick, Pic, Ioapic, Shape, IoapicChip}
+use Rattle.board_step.proofs.Chips.{message_of, entry_at, pin_acked, has_resampler, hold, hold_cmp, ack_injects, is_same_pin, has_pin}
+use Rattle.board_step.proofs.Plans.{Board, is_same, IoapicPart, ioapic_of, with_ioapic, Routing, done, ◌>>◌, Wishes, Outcome, run}
+use Rattle.board_step.proofs.Calls.{of_pin, of_answer, of_other, tell_concerned, end_level, end_tick, acknowledge, acknowledge_tick, board_by, of_marked, of_resend, of_level, of_tick, of_acknowledge_each}
 use Rattle.std.specs.Prelude.{◌⊎◌}
-use Rattle.std.specs.Cmp.{unsigned_Decides}
-use Rattle.std.specs.declared.option.Option.{Option}
-use Rattle.std.specs.FinSet.{contains-remove}
-use Rattle.std.specs.Ordering.{eq_by_cmp}
-use Rattle.irq_base.specs.declared.event.Pin.{Pin}
-use Rattle.irq_base.specs.declared.event.Pin.TheVariants as pins
-use Rattle.irq_base.specs.declared.message.Message.{Message}
-use Rattle.irq_base.specs.declared.message.MsiWord.{MsiWord}
-use Rattle.irq_base.specs.declared.message.Source.TheVariants.{Resample}
-use Rattle.irq_base.specs.declared.shape.Part.{Part}
-use Rattle.irq_base.specs.declared.shape.Part.TheVariants.{Tick, Pic, Ioapic}
-use Rattle.irq_base.specs.declared.shape.Shape.{Shape}
 use Rattle.ioapic_82093aa.specs.declared.entry.Entry.{Entry}
-use Rattle.ioapic_82093aa.specs.declared.ioapic.Ioapic.{Ioapic as IoapicChip}
-use Rattle.ioapic_82093aa.specs.Entries.{message_of}
-use Rattle.ioapic_82093aa.specs.Pins.{entry_at, pin_acked}
-use Rattle.irqfd_set.specs.Rows.{has_resampler}
-use Rattle.source_levels.specs.Holds.{hold, hold_cmp}
 use Rattle.source_levels.proofs.HoldLemmas.{hold_cmp_total}
-use Rattle.tick_reinject.specs.Ticks.{ack_injects}
-use Rattle.route_table.specs.Rows.{is_same as is_same_pin}
-use Rattle.route_table.specs.Pins.{has_pin}
 use Rattle.route_table.proofs.TableLaws.{is_same-some}
-use Rattle.board_model.specs.Board.{Board, is_same}
-use Rattle.board_model.specs.Chips.{IoapicPart, ioapic_of, with_ioapic}
-use Rattle.board_model.specs.Routing.{Routing}
-use Rattle.board_model.specs.Plan.{done, ◌>>◌}
-use Rattle.board_model.specs.Run.{Wishes, Outcome, run}
 use Rattle.board_model.proofs.Sequence.{run-bind}
-use Rattle.board_raise.specs.ReachLaws.{of_pin, of_answer, of_other}
-use Rattle.board_ack.specs.Acknowledge.{tell_concerned, end_level, end_tick, acknowledge}
-use Rattle.board_ack.specs.Ticks.{acknowledge_tick}
-use Rattle.board_ack.specs.ReachLaws.{board_by, of_marked, of_resend, of_level, of_tick, of_acknowledge_each}
 use Rattle.board_ack.proofs.Counting.{acknowledge_tells}
 use Rattle.board_step.specs.ReachNow.{pin_freed, part_freed, freed, part_cleared, cleared, of_acknowledge_now, of_acknowledges_now}
 use Rattle.board_step.proofs.ReachPins.{irr_cleared, acked_entry, raise_alike, MarksResamplers, told_holds, level_ends, acknowledge_is_now}

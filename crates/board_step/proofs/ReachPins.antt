@@ -1,46 +1,19 @@
 -- What the acknowledge of one pin reaches is told by the board before it.
-use Rattle.std.proofs.Common.{◌≡◌, ℕ, zero, suc, Bool, true, false, not, ◌&&◌, ◌||◌, nat_eq, if◌then◌else◌, List, [], ◌∷◌, slice_set, inl, inr, refl, sym, ap, ◌∙◌, subst, true≢false, arith, Some, None}
-use Rattle.std.specs.Prelude.{slice_index_or, ◌⊎◌}
-use Rattle.std.specs.declared.option.Option.{Option}
-use Rattle.std.specs.FinSet as set
-use Rattle.std.specs.Cmp.{unsigned_Decides}
-use Rattle.std.proofs.lemmas.Bool.Decides.{nat_tests}
-use Rattle.irq_base.specs.Counts.{signalled_all}
-use Rattle.irq_base.specs.declared.event.Event.{Event}
-use Rattle.irq_base.specs.declared.event.Pin.{Pin}
-use Rattle.irq_base.specs.declared.event.Pin.TheVariants as pins
-use Rattle.irq_base.specs.declared.message.Message.{Message}
-use Rattle.irq_base.specs.declared.message.MsiWord.{MsiWord}
-use Rattle.irq_base.specs.declared.message.Source.TheVariants.{Resample}
-use Rattle.irq_base.specs.declared.shape.Part.{Part}
-use Rattle.irq_base.specs.declared.shape.Part.TheVariants.{Registry, Counters, Tick, Pic, Ioapic, Lapic}
-use Rattle.irq_base.specs.declared.shape.Shape.{Shape}
+use Rattle.board_step.proofs.Basics.set
+use Rattle.board_step.proofs.Basics.{◌≡◌, ℕ, zero, suc, Bool, true, false, not, ◌&&◌, ◌||◌, nat_eq, if◌then◌else◌, List, [], ◌∷◌, inl, inr, refl, sym, ap, ◌∙◌, subst, true≢false, arith, Some, None, slice_index_or, Option, unsigned_Decides, nat_tests}
+use Rattle.board_step.proofs.Types.pins
+use Rattle.board_step.proofs.Types.raises
+use Rattle.board_step.proofs.Types.{signalled_all, Event, Pin, Message, MsiWord, Resample, Part, Registry, Counters, Tick, Pic, Ioapic, Lapic, Shape, IoapicChip}
+use Rattle.board_step.proofs.Chips.{message_of, entry_at, raise_of, resend_of, pin_acked, pin_accepted, has_resampler, watched, watch_events, resampled, resample_events, ack_injects, is_taken}
+use Rattle.board_step.proofs.Plans.{Board, part_of, with_part, is_same, IoapicPart, ioapic_of, with_ioapic, Routing, About, resent, Plan, done, ◌>>◌, Wishes, Outcome, run, TargetAnswer}
+use Rattle.board_step.proofs.Calls.{reached_by, send, is_accepted, accept_pin, let_go, is_of_one, of_message, of_pin, of_answer, of_other, say_each, signal_each, resample, notify, resample_and_notify, tell_concerned, resend, clear_and_resend, end_level, entry_ended, board_by, of_marked, of_resend, of_level, of_tick, of_acknowledge}
+use Rattle.std.proofs.Common.{slice_set}
+use Rattle.std.specs.Prelude.{◌⊎◌}
 use Rattle.ioapic_82093aa.specs.declared.entry.Entry.{Entry}
-use Rattle.ioapic_82093aa.specs.declared.ioapic.Ioapic.{Ioapic as IoapicChip}
-use Rattle.ioapic_82093aa.specs.declared.ioapic.Raise.TheVariants as raises
-use Rattle.ioapic_82093aa.specs.Entries.{entry_at_power_on, message_of}
-use Rattle.ioapic_82093aa.specs.Pins.{entry_at, stands, raise_of, is_due, resend_of, pin_acked, pin_accepted}
-use Rattle.irqfd_set.specs.Rows.{has_resampler}
-use Rattle.ack_notifiers.specs.Rows.{watched, watch_events}
-use Rattle.resampler.specs.Resample.{resampled, resample_events}
-use Rattle.tick_reinject.specs.Ticks.{ack_injects}
-use Rattle.lapic.specs.Messages.{is_taken}
-use Rattle.board_model.specs.Board.{Board, part_of, with_part, is_same}
-use Rattle.board_model.specs.Chips.{IoapicPart, ioapic_of, with_ioapic}
-use Rattle.board_model.specs.Routing.{Routing}
-use Rattle.board_model.specs.Plan.{About, resent, Plan, done, ◌>>◌}
-use Rattle.board_model.specs.Run.{Wishes, Outcome, run}
-use Rattle.board_model.specs.Statuses.{TargetAnswer}
+use Rattle.ioapic_82093aa.specs.Entries.{entry_at_power_on}
 use Rattle.board_model.proofs.Sequence.{run-bind}
 use Rattle.board_model.proofs.Staying.{unreached_stays}
-use Rattle.board_raise.specs.Send.{reached_by, send}
-use Rattle.board_raise.specs.Signal.{is_accepted, accept_pin, let_go}
-use Rattle.board_raise.specs.ReachLaws.{is_of_one, of_message, of_pin, of_answer, of_other}
 use Rattle.board_raise.proofs.Reaching.{sends_reach}
-use Rattle.board_ack.specs.Acknowledge.{say_each, signal_each, resample, notify, resample_and_notify, tell_concerned, resend, clear_and_resend, end_level}
-use Rattle.board_ack.specs.OnHand.{entry_ended}
-use Rattle.board_ack.specs.ReachLaws.{board_by, of_marked, of_resend, of_level, of_tick, of_acknowledge}
-use Rattle.board_ack.proofs.ReachAcknowledge.{gsi_same}
 use Rattle.board_step.specs.ReachNow.{pin_freed, part_freed, freed, part_cleared, cleared, of_acknowledge_now}
 
 -- ---- entries that are written
@@ -82,8 +55,7 @@ none_of q other [] = refl
 none_of q other (n ∷ ns) = (λ i. other n i || is_of_one ns q) ∙ none_of q other ns
 
 taken_none : (a b : Bool) → b ≡ false → (a && b) ≡ false
-taken_none true b e = e
-taken_none false b e = refl
+taken_none a b h1 = grind arith
 
 module _ (cpus : ℕ) (message : Message) (about : About) (b : Board) (ws : Wishes) where
   abbrev pub sent_board : Board
@@ -218,30 +190,16 @@ module _ (cpus pin : ℕ) (b : Board) (ws : Wishes) where
 
 -- what a pin sends is its entry's message
 answer_within : (io : IoapicChip) (pin cpus : ℕ) (q : Part) → of_answer (raise_of io pin) cpus q ≡ true → of_message (message_of (entry_at io pin)) None cpus q ≡ true
-answer_within io pin cpus q = by_tests (entry_at io pin).masked (stands io pin)
-  where
-    by_tests : (masked stood : Bool) → of_answer (if masked then raises.Masked else if stood then raises.Stood else raises.Send (message_of (entry_at io pin))) cpus q ≡ true
-        → of_message (message_of (entry_at io pin)) None cpus q ≡ true
-    by_tests true stood h = absurd (true≢false (sym h))
-    by_tests false true h = absurd (true≢false (sym h))
-    by_tests false false h = h
+answer_within io pin cpus q h1 = grind arith
 
 -- what is sent again is its entry's message
 again_is : (io : IoapicChip) (pin : ℕ) (message : Message) → resend_of io pin ≡ Some message → message_of (entry_at io pin) ≡ message
-again_is io pin message = by_test (is_due io pin)
-  where
-    by_test : (t : Bool) → (if t then Some (message_of (entry_at io pin)) else None) ≡ Some message → message_of (entry_at io pin) ≡ message
-    by_test true e = cc
-    by_test false e = cc
+again_is io pin message h1 = grind arith
 
 -- of two parts of what is reached already, each adds nothing
 swallowed : (i m g t j p a c : Bool) → (a ≡ true → m ≡ true) → (c ≡ true → m ≡ true)
     → ((i || m) || (g && (t || (j && (p || (i || a)))))) ≡ ((i || m) || (g && (t || (j && (p || (i || c))))))
-swallowed true m g t j p a c f h = refl
-swallowed false true g t j p a c f h = refl
-swallowed false false g t j p true c f h = absurd (true≢false (sym (f refl)))
-swallowed false false g t j p false true f h = absurd (true≢false (sym (h refl)))
-swallowed false false g t j p false false f h = refl
+swallowed i m g t j p a c h1 h2 = grind arith
 
 -- what a pin answers is told by its entry and its level
 pub raise_alike : (io other : IoapicChip) (pin : ℕ) → entry_at io pin ≡ entry_at other pin → set.contains io.high pin ≡ set.contains other.high pin → raise_of io pin ≡ raise_of other pin
@@ -251,12 +209,10 @@ raise_alike io other pin entries levels = λ i. if (entries i).masked then raise
 
 module _ (routing : Routing) (shape : Shape) where
   level_by : (b c : Board) (pin : Pin) (q : Part) → b.ioapic ≡ c.ioapic → of_level routing shape b pin q ≡ of_level routing shape c pin q
-  level_by b c (pins.Pic pin) q same = refl
-  level_by b c (pins.Ioapic pin) q same = ap (λ part. is_same Ioapic q || ((entry_at (ioapic_of part) pin).level && of_resend routing shape (resend_of (pin_acked (ioapic_of part) pin) pin) q)) same
+  level_by b c pin q h1 = grind arith
 
   tick_by : (b c : Board) (gsi : Option ℕ) (q : Part) → b.tick ≡ c.tick → b.ioapic ≡ c.ioapic → of_tick routing shape b gsi q ≡ of_tick routing shape c gsi q
-  tick_by b c None q ticks same = refl
-  tick_by b c (Some gsi) q ticks same = λ i. nat_eq gsi shape.tick && (is_same Tick q || (ack_injects (ticks i) && gsi_same routing shape b c shape.tick q same i))
+  tick_by b c gsi q h1 h2 = grind arith
 
   module _ (b : Board) (pin : ℕ) (gsi : Option ℕ) (q : Part) where
     abbrev chip : IoapicChip

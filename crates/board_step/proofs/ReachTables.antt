@@ -1,52 +1,16 @@
 -- What a call reaches is told by the board before it.
-use Rattle.std.proofs.Common.{◌≡◌, ℕ, ◌+◌, Bool, true, false, cond, not, ◌&&◌, ◌||◌, nat_eq, ◌-◌, if◌then◌else◌, List, [], ◌∷◌, ◌++◌, map, filter, refl, sym, ap, ◌∙◌, subst, true≢false, arith, Some, None}
-use Rattle.std.specs.Prelude.{is_some}
-use Rattle.std.specs.List.{list_all}
-use Rattle.std.specs.Cmp.{unsigned_Decides}
-use Rattle.std.specs.declared.option.Option.{Option}
-use Rattle.std.proofs.lemmas.Bool.Decides.{nat_tests}
-use Rattle.irq_bits.specs.Members.{greatest_vector}
-use Rattle.irq_base.specs.Refusals.{first_of}
-use Rattle.irq_base.specs.declared.call.Call.{Call}
-use Rattle.irq_base.specs.declared.call.Call.TheVariants as calls
-use Rattle.irq_base.specs.declared.call.Caller.{Caller}
-use Rattle.irq_base.specs.declared.call.Space.{Space}
-use Rattle.irq_base.specs.declared.call.Space.TheVariants as spaces
-use Rattle.irq_base.specs.declared.event.Pin.{Pin}
-use Rattle.irq_base.specs.declared.event.Pin.TheVariants as pins
-use Rattle.irq_base.specs.declared.shape.Part.{Part}
-use Rattle.irq_base.specs.declared.shape.Part.TheVariants.{Registry, Pic, Ioapic, Lapic}
-use Rattle.irq_base.specs.declared.shape.Shape.{Shape}
-use Rattle.pic_8259a.specs.declared.pair.Pair.{Pair}
-use Rattle.pic_8259a.specs.declared.chip.Place.TheVariants.{Slave}
-use Rattle.pic_8259a.specs.Priority.{top_of}
-use Rattle.pic_8259a.specs.Accesses.{level_acknowledged}
-use Rattle.pic_8259a.specs.Pair.{is_port, has_output, slave_pin, master_top, acked_pins, slave_cycle, cycle_by, cycle, write_to as pair_write_to, read_from as pair_read_from}
-use Rattle.ioapic_82093aa.specs.declared.ioapic.Ioapic.{Ioapic as IoapicChip}
-use Rattle.ioapic_82093aa.specs.Pins.{has_vector, write_to}
+use Rattle.board_step.proofs.Basics.{◌≡◌, ℕ, ◌+◌, Bool, true, false, cond, not, ◌&&◌, ◌||◌, nat_eq, ◌-◌, if◌then◌else◌, List, [], ◌∷◌, ◌++◌, map, filter, refl, sym, ap, ◌∙◌, subst, true≢false, arith, Some, None, is_some, list_all, unsigned_Decides, Option, nat_tests}
+use Rattle.board_step.proofs.Types.calls
+use Rattle.board_step.proofs.Types.spaces
+use Rattle.board_step.proofs.Types.pins
+use Rattle.board_step.proofs.Types.effects
+use Rattle.board_step.proofs.Types.{greatest_vector, first_of, Call, Caller, Space, Pin, Part, Registry, Pic, Ioapic, Lapic, Shape, Pair, Slave, IoapicChip, Irqfd, TriggerWord}
+use Rattle.board_step.proofs.Chips.{top_of, level_acknowledged, is_port, has_output, slave_pin, master_top, acked_pins, slave_cycle, cycle_by, cycle, pair_write_to, pair_read_from, has_vector, write_to, LocalApic, store_effect, named_row, has_watch, rung_by, Table, is_same_pin, targets_of, has_pin, gsi_of}
+use Rattle.board_step.proofs.Plans.{Board, part_of, is_same, pair_of, IoapicPart, ioapic_of, IsSoundTable, IsSoundRegistry, RegistryPart, Routing, routing_of_registry}
+use Rattle.board_step.proofs.Calls.{of_fall, of_acknowledge_each, is_ioapic_address, is_lapic_address, range_reasons, all_pins, pins_with, pic_pin, cycle_pins, hears_pair, number_of}
 use Rattle.lapic.specs.declared.outcome.Effect.{Effect}
-use Rattle.lapic.specs.declared.outcome.Effect.TheVariants as effects
-use Rattle.lapic.specs.Registers.{LocalApic}
-use Rattle.lapic.specs.Offsets.{store_effect}
-use Rattle.irqfd_set.specs.declared.irqfds.Irqfd.{Irqfd}
-use Rattle.irqfd_set.specs.Rows.{named_row}
-use Rattle.ack_notifiers.specs.Rows.{has_watch}
-use Rattle.ioevent_set.specs.Rows.{rung_by}
-use Rattle.route_table.specs.Rows.{Table, is_same as is_same_pin, targets_of}
-use Rattle.route_table.specs.Pins.{has_pin, gsi_of}
 use Rattle.route_table.proofs.Sound.{sound_of}
 use Rattle.route_table.proofs.Given.{gsi_of_pin}
-use Rattle.board_model.specs.declared.trigger.TriggerWord.{TriggerWord}
-use Rattle.board_model.specs.Board.{Board, part_of, is_same}
-use Rattle.board_model.specs.Chips.{pair_of, IoapicPart, ioapic_of}
-use Rattle.board_model.specs.Published.{IsSoundTable, IsSoundRegistry}
-use Rattle.board_model.specs.Registry.{RegistryPart}
-use Rattle.board_model.specs.Routing.{Routing, routing_of_registry}
-use Rattle.board_raise.specs.ReachLaws.{of_fall}
-use Rattle.board_ack.specs.ReachLaws.{of_acknowledge_each}
-use Rattle.board_calls.specs.Refusals.{is_ioapic_address, is_lapic_address, range_reasons}
-use Rattle.board_calls.specs.Processors.{all_pins, pins_with, pic_pin, cycle_pins, hears_pair}
-use Rattle.board_calls.specs.Calls.{number_of}
 use Rattle.board_step.specs.Reach as table
 use Rattle.board_step.specs.Reach.{reach}
 use Rattle.board_step.specs.ReachNow.{of_acknowledges_now, reach_now}
@@ -72,8 +36,7 @@ marks_resamplers b gsi has = ap (λ t. t || (has_watch b.registry.watches gsi ||
 
 module _ (routing : Routing) (shape : Shape) (tells : TellsPins routing shape) where
   one_number : (o : Option ℕ) (a c : ℕ) → is_same_pin o (Some a) ≡ true → is_same_pin o (Some c) ≡ true → nat_eq a c ≡ true
-  one_number None a c h k = absurd (true≢false (sym h))
-  one_number (Some n) a c h k = grind (arith, nat_tests, h, k)
+  one_number o a c h1 h2 = grind arith
 
   both_ways : {P : Type 0} (a c : ℕ) → nat_eq a c ≡ false → nat_eq a c ≡ true → P
   both_ways a c other same = absurd (true≢false (sym same ∙ other))
@@ -106,16 +69,13 @@ module _ (routing : Routing) (shape : Shape) (tells : TellsPins routing shape) w
   all_differ (n ∷ ns) = are_others n ns && all_differ ns
 
   first_of_both : (a c : Bool) → (a && c) ≡ true → a ≡ true
-  first_of_both true c h = refl
-  first_of_both false c h = h
+  first_of_both a c h1 = grind arith
 
   second_of_both : (a c : Bool) → (a && c) ≡ true → c ≡ true
-  second_of_both true c h = h
-  second_of_both false c h = absurd (true≢false (sym h))
+  second_of_both a c h1 = grind arith
 
   turned : (t : Bool) → not t ≡ true → t ≡ false
-  turned true h = sym h
-  turned false h = refl
+  turned t h1 = grind arith
 
   module _ (f : ℕ → Bool) where
     each_apart : (a : ℕ) (ns : List ℕ) → are_others a ns ≡ true → EachApart routing shape (pins.Ioapic a) (map pins.Ioapic (filter f ns))
@@ -191,23 +151,19 @@ module _ (routing : Routing) (shape : Shape) (tells : TellsPins routing shape) (
   cycle_now = acks_now (cycle_pins (cycle (pair_of b.pic)).pins) (cycle_apart routing shape tells (pair_of b.pic))
 
   counter_now : (trigger : Option TriggerWord) → table.of_counter of_acknowledge_each routing shape b trigger q ≡ table.of_counter of_acknowledges_now routing shape b trigger q
-  counter_now None = refl
-  counter_now (Some trigger) = refl
+  counter_now trigger = grind arith
 
   rung_now : (counter : Option ℕ) → table.of_rung of_acknowledge_each routing shape b counter q ≡ table.of_rung of_acknowledges_now routing shape b counter q
-  rung_now None = refl
-  rung_now (Some counter) = counter_now (routing.trigger counter)
+  rung_now counter = grind arith
 
   ring_now : (space : Space) (address len value : ℕ) → table.of_ring of_acknowledge_each routing shape b space address len value q ≡ table.of_ring of_acknowledges_now routing shape b space address len value q
   ring_now space address len value = ap (λ t. is_same Registry q || t) (rung_now (rung_by b.registry.ioevents space address len value))
 
   write_now : (trigger : Option TriggerWord) (count : ℕ) → table.of_write of_acknowledge_each routing shape b trigger count q ≡ table.of_write of_acknowledges_now routing shape b trigger count q
-  write_now None count = refl
-  write_now (Some trigger) count = refl
+  write_now trigger count = grind arith
 
   written_now : (part : IoapicPart) (after : IoapicChip) (pin : Option ℕ) → table.of_written of_acknowledge_each routing shape part (record { after = after; pin = pin }) q ≡ table.of_written of_acknowledges_now routing shape part (record { after = after; pin = pin }) q
-  written_now part after None = refl
-  written_now part after (Some pin) = refl
+  written_now part after pin = grind arith
 
   effect_now : (n : ℕ) (effect : Effect) → table.of_effect of_acknowledge_each routing shape b n effect q ≡ table.of_effect of_acknowledges_now routing shape b n effect q
   effect_now n effects.Plain = refl
@@ -225,32 +181,19 @@ module _ (routing : Routing) (shape : Shape) (tells : TellsPins routing shape) (
   ack_now n apic = ap (λ t. is_same (Lapic n) q || ((not apic.nmi && hears_pair n apic) && (is_same Pic q || (has_output (pair_of b.pic) && t)))) cycle_now
 
   release_now : (rows : List Irqfd) (trigger gsi : ℕ) (row : Option Irqfd) → table.does_release of_acknowledge_each routing shape rows trigger gsi row ≡ table.does_release of_acknowledges_now routing shape rows trigger gsi row
-  release_now rows trigger gsi None = refl
-  release_now rows trigger gsi (Some row) = refl
+  release_now rows trigger gsi row = grind arith
 
   call_now : (n : ℕ) (call : Call) → table.of_call of_acknowledge_each routing shape b n call q ≡ table.of_call of_acknowledges_now routing shape b n call q
-  call_now n (calls.Line gsi line true) = refl
-  call_now n (calls.Line gsi line false) = refl
-  call_now n (calls.Msi address payload) = refl
   call_now n (calls.Write counter count) = write_now (routing.trigger counter) count
-  call_now n (calls.Take counter) = refl
-  call_now n (calls.Assign trigger gsi resample) = refl
   call_now n (calls.Deassign trigger gsi) = ap (λ t. is_same Registry q || (t && of_fall (routing.targets gsi) q)) (release_now b.registry.irqfds trigger gsi (named_row b.registry.irqfds trigger gsi))
-  call_now n (calls.Reroute rows) = refl
-  call_now n (calls.Attach space address len counter want) = refl
-  call_now n (calls.Detach space address len counter want) = refl
-  call_now n (calls.Watch counter gsi) = refl
-  call_now n (calls.Unwatch counter gsi) = refl
-  call_now n calls.Tick = refl
-  call_now n (calls.TickMode reinject) = refl
   call_now n (calls.PortOut port len value) =
       λ i. if is_port port then pair_now len (pair_write_to (pair_of b.pic) port value).pin i else ring_now spaces.Port port len value i
   call_now n (calls.PortIn port len) = λ i. if is_port port then pair_now len (pair_read_from (pair_of b.pic) port).pin i else false
   call_now n (calls.Store address len value) = store_now n address len value
-  call_now n (calls.Load address len) = refl
   call_now n calls.Ack = ack_now n (part_of b (Lapic n))
   call_now n calls.Inta = ap (λ t. is_same Pic q || t) cycle_now
   call_now n calls.Eoi = ap (λ t. is_same (Lapic n) q || t) (end_now (greatest_vector (part_of b (Lapic n)).isr))
+  call_now n _ = refl
 
 -- where the registry is sound
 pub reach_by_registry : (b : Board) (caller : Caller) (call : Call) (q : Part) → IsSoundRegistry b.registry b.shape.tick → reach b caller call q ≡ reach_now b caller call q

@@ -1,24 +1,12 @@
 -- A call that is refused, and no other, answers its refusal.
-use Rattle.std.proofs.Common.{◌≡◌, ℕ, Bool, true, false, not, ◌||◌, if◌then◌else◌, List, [], ◌∷◌, ◌++◌, refl, sym, ap, ◌∙◌, true≢false, option_map, is_some, Some, None}
-use Rattle.std.specs.declared.option.Option.{Option}
-use Rattle.irq_base.specs.Refusals.{Reason, first_of}
-use Rattle.irq_base.specs.declared.call.Call.{Call}
-use Rattle.irq_base.specs.declared.call.Call.TheVariants as calls
-use Rattle.irq_base.specs.declared.call.Caller.{Caller}
-use Rattle.irq_base.specs.declared.lists.Entry.{Entry}
-use Rattle.irq_base.specs.declared.refusal.Refusal.{Refusal}
-use Rattle.irq_base.specs.declared.reply.Reply.{Reply}
-use Rattle.irq_base.specs.declared.reply.Reply.TheVariants.{Refused, Done}
-use Rattle.irqfd_set.specs.declared.irqfds.Irqfd.{Irqfd}
-use Rattle.irqfd_set.specs.Rows.{of_trigger}
-use Rattle.board_model.specs.Board.{Board}
-use Rattle.board_model.specs.Routing.{trigger_of, routing_of_registry}
-use Rattle.board_model.specs.Plan.{Plan}
-use Rattle.board_model.specs.Run.{Wishes, Outcome, run}
+use Rattle.board_step.proofs.Basics.{◌≡◌, ℕ, Bool, true, false, not, ◌||◌, if◌then◌else◌, List, [], ◌∷◌, ◌++◌, refl, sym, ap, ◌∙◌, true≢false, option_map, Some, None, Option}
+use Rattle.board_step.proofs.Types.calls
+use Rattle.board_step.proofs.Types.{Reason, first_of, Call, Caller, Entry, Refusal, Reply, Refused, Done, Irqfd}
+use Rattle.board_step.proofs.Chips.{of_trigger}
+use Rattle.board_step.proofs.Plans.{Board, trigger_of, routing_of_registry, Plan, Wishes, Outcome, run}
+use Rattle.board_step.proofs.Calls.{range_reasons, write_reasons, unless_refused, write, number_of, plan_in_range}
+use Rattle.std.proofs.Common.{is_some}
 use Rattle.board_raise.proofs.Manner.{Manner, some_refusal, Keeps, accepts}
-use Rattle.board_calls.specs.Refusals.{range_reasons, write_reasons}
-use Rattle.board_calls.specs.Registrations.{unless_refused, write}
-use Rattle.board_calls.specs.Calls.{number_of, plan_in_range}
 use Rattle.board_step.specs.Step.{later_reasons, refusal_of, plan_on, outcome_of, Step}
 use Rattle.board_step.specs.Laws.{RefusesRightly}
 use Rattle.board_step.proofs.CallManner.{replies_in, writes_in, refuses_in, ends, write_trigger_keeps, assigned_keeps, in_range_keeps, or_true}

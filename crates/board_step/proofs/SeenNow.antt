@@ -1,18 +1,12 @@
 -- What is read of the parts of a board.
-use Rattle.std.proofs.Common.{◌≡◌, ℕ, zero, suc, ◌<◌, Bool, true, false, cond, map, filter, ◌&&◌, ◌||◌, nat_eq, nat_lt, if◌then◌else◌, List, [], ◌∷◌, ◌++◌, refl, sym, ap, ◌∙◌, arith}
-use Rattle.std.specs.List.{list_any}
-use Rattle.std.specs.Cmp.{unsigned_Decides}
-use Rattle.std.proofs.lemmas.Bool.Decides.{nat_tests}
-use Rattle.irq_base.specs.declared.shape.Part.{Part}
-use Rattle.irq_base.specs.declared.shape.Part.TheVariants.{Registry, Counters, Tick, Pic, Ioapic, Lapic}
-use Rattle.board_model.specs.Board.{is_same}
-use Rattle.board_raise.specs.Send.{numbers_below, only}
-use Rattle.board_raise.specs.ReachLaws.{is_of_one}
-use Rattle.irq_base.specs.declared.event.Pin.TheVariants as pins
-use Rattle.ioapic_82093aa.specs.Pins.{has_vector}
+use Rattle.board_step.proofs.Basics.{◌≡◌, ℕ, zero, suc, ◌<◌, Bool, true, false, cond, map, filter, ◌&&◌, ◌||◌, nat_eq, nat_lt, if◌then◌else◌, List, [], ◌∷◌, ◌++◌, refl, sym, ap, ◌∙◌, arith, list_any, unsigned_Decides, nat_tests}
+use Rattle.board_step.proofs.Types.pins
+use Rattle.board_step.proofs.Types.{Part, Registry, Counters, Tick, Pic, Ioapic, Lapic}
+use Rattle.board_step.proofs.Chips.{has_vector}
+use Rattle.board_step.proofs.Plans.{is_same}
+use Rattle.board_step.proofs.Calls.{numbers_below, only, is_of_one, all_pins, pins_with}
 use Rattle.board_model.specs.Chips.{ioapic_of as chip_of}
 use Rattle.board_raise.specs.InHand.{ioapic_of}
-use Rattle.board_calls.specs.Processors.{all_pins, pins_with}
 use Rattle.board_step.specs.ReachNow.{of_acknowledge_now, of_acknowledges_now}
 use Rattle.board_step.specs.declared.seen.Seen.{Seen}
 use Rattle.board_step.specs.Seen.{board_seen, routing_seen, is_ended}

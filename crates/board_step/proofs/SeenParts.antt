@@ -1,22 +1,11 @@
 -- The board of the parts that are lent, and the counts of a board, which no reach depends on.
-use Rattle.std.proofs.Common.{◌≡◌, ℕ, ◌≤◌, ◌^◌, true, false, true≢false, ◌||◌, List, [], length, arith, refl, sym, ap, ◌∙◌, Some, None}
-use Rattle.std.specs.Prelude.{is_some, IfSome, AllPairs, option_map, unwrap_or}
-use Rattle.std.specs.declared.option.Option.{Option}
-use Rattle.irq_base.specs.declared.call.Call.{Call}
-use Rattle.irq_base.specs.declared.call.Caller.{Caller}
-use Rattle.irq_base.specs.declared.shape.Part.{Part}
-use Rattle.irq_base.specs.declared.shape.Part.TheVariants.{Registry, Counters, Tick, Pic, Ioapic, Lapic}
-use Rattle.irqfd_set.specs.declared.irqfds.Irqfd.{Irqfd}
-use Rattle.irqfd_set.specs.Rows.{has_trigger}
-use Rattle.tick_reinject.specs.declared.state.TickState.{TickState}
-use Rattle.tick_reinject.specs.Ticks.{in_mode}
-use Rattle.board_model.specs.Registry.{RegistryPart}
-use Rattle.board_model.specs.Board.{Board, part_of, with_part, is_same}
-use Rattle.board_model.specs.Plan.{Plan, done, look, put, tell, answer, choose}
-use Rattle.board_model.specs.Run.{Wishes, next_wish, later_wishes, reaches}
+use Rattle.board_step.proofs.Basics.{◌≡◌, ℕ, ◌≤◌, ◌^◌, true, false, true≢false, ◌||◌, List, [], length, arith, refl, sym, ap, ◌∙◌, Some, None, is_some, IfSome, AllPairs, unwrap_or, Option}
+use Rattle.board_step.proofs.Types.{Call, Caller, Part, Registry, Lapic, Irqfd, TickState}
+use Rattle.board_step.proofs.Chips.{has_trigger, in_mode}
+use Rattle.board_step.proofs.Plans.{RegistryPart, Board, part_of, with_part, is_same, Plan, done, look, put, tell, answer, choose, Wishes, next_wish, later_wishes, reaches}
+use Rattle.board_step.proofs.Calls.{registry_of, RegistrationsFit}
+use Rattle.std.specs.Prelude.{option_map}
 use Rattle.board_raise.specs.declared.parts.Parts as parts
-use Rattle.board_raise.specs.InHand.{registry_of}
-use Rattle.board_raise.specs.Fit.{RegistrationsFit}
 use Rattle.board_step.specs.Step.{plan_on}
 use Rattle.board_step.specs.Reach.{reach}
 use Rattle.board_step.specs.History.{opening_registry}
@@ -61,17 +50,9 @@ with_counts b length publications = record b { length = length; publications = p
 uncounted : {A : Type 0} (m : Plan A) (b : Board) (l n : ℕ) (ws : Wishes) (q : Part) → reaches m (with_counts b l n) ws q ≡ reaches m b ws q
 uncounted (done a) b l n ws q = refl
 uncounted (look Registry k) b l n ws q = ap (λ t. is_same Registry q || t) (uncounted (k b.registry) b l n ws q)
-uncounted (look Counters k) b l n ws q = ap (λ t. is_same Counters q || t) (uncounted (k b.counters) b l n ws q)
-uncounted (look Tick k) b l n ws q = ap (λ t. is_same Tick q || t) (uncounted (k b.tick) b l n ws q)
-uncounted (look Pic k) b l n ws q = ap (λ t. is_same Pic q || t) (uncounted (k b.pic) b l n ws q)
-uncounted (look Ioapic k) b l n ws q = ap (λ t. is_same Ioapic q || t) (uncounted (k b.ioapic) b l n ws q)
-uncounted (look (Lapic c) k) b l n ws q = ap (λ t. is_same (Lapic c) q || t) (uncounted (k (part_of b (Lapic c))) b l n ws q)
+uncounted (look p k) b l n ws q = ap (λ t. is_same p q || t) (uncounted (k (part_of b p)) b l n ws q)
 uncounted (put Registry v rest) b l n ws q = ap (λ t. is_same Registry q || t) (uncounted rest (with_part b Registry v) l n ws q)
-uncounted (put Counters v rest) b l n ws q = ap (λ t. is_same Counters q || t) (uncounted rest (with_part b Counters v) l n ws q)
-uncounted (put Tick v rest) b l n ws q = ap (λ t. is_same Tick q || t) (uncounted rest (with_part b Tick v) l n ws q)
-uncounted (put Pic v rest) b l n ws q = ap (λ t. is_same Pic q || t) (uncounted rest (with_part b Pic v) l n ws q)
-uncounted (put Ioapic v rest) b l n ws q = ap (λ t. is_same Ioapic q || t) (uncounted rest (with_part b Ioapic v) l n ws q)
-uncounted (put (Lapic c) v rest) b l n ws q = ap (λ t. is_same (Lapic c) q || t) (uncounted rest (with_part b (Lapic c) v) l n ws q)
+uncounted (put p v rest) b l n ws q = ap (λ t. is_same p q || t) (uncounted rest (with_part b p v) l n ws q)
 uncounted (tell x rest) b l n ws q = uncounted rest b l n ws q
 uncounted (answer x rest) b l n ws q = uncounted rest b l n ws q
 uncounted (choose m about g k) b l n ws q = uncounted (k (g (next_wish ws))) b l n (later_wishes ws) q

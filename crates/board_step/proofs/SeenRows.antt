@@ -1,17 +1,9 @@
 -- What is read of the rows of irqfds.
-use Rattle.std.proofs.Common.{◌≡◌, ℕ, ◌<◌, nat_eq, Bool, true, false, cond, not, ◌&&◌, ◌||◌, if◌then◌else◌, List, [], ◌∷◌, filter, All, refl, sym, ap, ◌∙◌, subst, Some, None}
-use Rattle.std.specs.Prelude.{is_some, find, IfSome, AllPairs}
-use Rattle.std.specs.List.{list_any}
-use Rattle.std.specs.Cmp.{unsigned_Decides}
-use Rattle.std.specs.declared.option.Option.{Option}
-use Rattle.std.proofs.lemmas.List.Elements.{All-head, All-tail}
-use Rattle.irq_base.specs.Refusals.{first_of}
-use Rattle.irq_base.specs.declared.refusal.Refusal.TheVariants.{Busy, RoleClash}
-use Rattle.irqfd_set.specs.declared.irqfds.Irqfd.{Irqfd}
-use Rattle.irqfd_set.specs.Rows.{of_trigger, has_trigger, resamples, has_resampler, is_named, named_row, without_row}
-use Rattle.board_model.specs.Registry.{RegistryPart}
-use Rattle.board_raise.specs.Fit.{IrqfdFits}
-use Rattle.board_calls.specs.Refusals.{is_trigger, is_signalled, resample_clashes, assign_reasons}
+use Rattle.board_step.proofs.Basics.{◌≡◌, ℕ, ◌<◌, nat_eq, Bool, true, false, cond, not, ◌&&◌, ◌||◌, if◌then◌else◌, List, [], ◌∷◌, filter, All, refl, sym, ap, ◌∙◌, subst, Some, None, is_some, find, IfSome, AllPairs, list_any, unsigned_Decides, Option, All-head, All-tail}
+use Rattle.board_step.proofs.Types.{first_of, Busy, RoleClash, Irqfd}
+use Rattle.board_step.proofs.Chips.{of_trigger, has_trigger, resamples, has_resampler, is_named, named_row, without_row}
+use Rattle.board_step.proofs.Plans.{RegistryPart}
+use Rattle.board_step.proofs.Calls.{IrqfdFits, is_trigger, is_signalled, resample_clashes, assign_reasons}
 use Rattle.board_step.proofs.SoundRows.{pairs_head, pairs_tail}
 use Rattle.board_step.specs.Seen.{is_trigger_in, is_free, if_of}
 

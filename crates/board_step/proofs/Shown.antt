@@ -1,20 +1,10 @@
 -- The wishes that the events and the reply of a plan show are those of its sendings.
-use Rattle.std.proofs.Common.{◌≡◌, Bool, true, false, ◌++◌, List, [], ◌∷◌, refl, sym, ap, ◌∙◌, true≢false, if◌then◌else◌, append-nil, arith, None, ◌||◌}
-use Rattle.std.specs.declared.option.Option.{Option}
-use Rattle.std.specs.FinSet as set
-use Rattle.std.specs.FinSet.{contains-union, len-empty, same_set, nat_cmp-IsAntisymmetric}
-use Rattle.std.specs.Ordering.{nat_cmp}
-use Rattle.std.specs.Cmp.{nat_cmp_total}
-use Rattle.irq_bits.specs.Members.{Numbers}
-use Rattle.irq_base.specs.declared.event.Event.{Event}
-use Rattle.irq_base.specs.declared.event.Event.TheVariants.{Acked, Resampled, Watched, Rang, Injected, Resent, Ipi}
-use Rattle.irq_base.specs.declared.reply.Reply.{Reply}
-use Rattle.irq_base.specs.declared.reply.Reply.TheVariants.{Signal}
-use Rattle.board_model.specs.Board.{Board, part_of, with_part}
-use Rattle.board_model.specs.Statuses.{Sent, nobody, is_empty, TargetAnswer, sets_of, status_sent}
-use Rattle.board_model.specs.Plan.{Heading, About, injected, resent, ipi, the_reply, Plan, done, look, put, tell, answer, choose}
-use Rattle.board_model.specs.Run.{Log, told, answered, sending, Wishes, next_wish, later_wishes, run}
-use Rattle.board_model.specs.Following.{reached, shown_wishes}
+use Rattle.board_step.proofs.Basics.set
+use Rattle.board_step.proofs.Basics.{◌≡◌, Bool, true, false, ◌++◌, List, [], ◌∷◌, refl, sym, ap, ◌∙◌, true≢false, if◌then◌else◌, append-nil, arith, None, ◌||◌, Option, contains-union, same_set, nat_cmp-IsAntisymmetric, nat_cmp, nat_cmp_total}
+use Rattle.board_step.proofs.Types.{Numbers, Event, Injected, Resent, Ipi, Reply, Signal}
+use Rattle.board_step.proofs.Plans.{Board, part_of, with_part, Sent, nobody, is_empty, TargetAnswer, sets_of, status_sent, Heading, About, injected, resent, ipi, the_reply, Plan, done, look, put, tell, answer, choose, Log, Wishes, next_wish, later_wishes, run, reached, shown_wishes}
+use Rattle.std.specs.FinSet.{len-empty}
+use Rattle.board_model.specs.Run.{told, answered, sending}
 use Rattle.board_model.proofs.Showing.{sets-sent}
 use Rattle.board_raise.proofs.Manner.{Manner, sets_told, sets_replied, shows_there, Keeps}
 use Rattle.board_step.specs.History.{wish_of, wish_shown, wish_replied, wishes_told}
@@ -33,8 +23,7 @@ none_wished : wish_of nobody ≡ []
 none_wished = ap (λ t. if t then (if t then [] else reached nobody ∷ []) else reached nobody ∷ []) empty_is
 
 same_twice : (t : Bool) → (t || t) ≡ t
-same_twice true = refl
-same_twice false = refl
+same_twice t = grind arith
 
 nobody_twice : set.union {R = nat_cmp} set.empty set.empty ≡ set.empty
 nobody_twice = same_set nat_cmp_total nat_cmp-IsAntisymmetric _ _ (λ q. contains-union nat_cmp_total _ _ q ∙ same_twice (set.contains {R = nat_cmp} set.empty q))
@@ -54,13 +43,10 @@ wished s somebody = elim (is_empty s.new) as (λ t. is_empty s.new ≡ t → (if
 ] refl
 
 event_none : (x : Event) → sets_told x ≡ nobody → wish_shown x ≡ []
-event_none (Acked pin gsi) h = refl
-event_none (Resampled counter) h = refl
-event_none (Watched counter) h = refl
-event_none (Rang counter) h = refl
 event_none (Injected gsi status) h = ap wish_of h ∙ none_wished
 event_none (Resent pin status) h = ap wish_of h ∙ none_wished
 event_none (Ipi status) h = ap wish_of h ∙ none_wished
+event_none _ h = refl
 
 reply_none : (r : Reply) → sets_replied r ≡ nobody → wish_replied r ≡ []
 reply_none (Signal status) h = ap wish_of h ∙ none_wished

@@ -1,68 +1,28 @@
 -- The writes of the calls that leave the registry keep a sound board's parts.
-use Rattle.std.proofs.Common.{◌≡◌, ℕ, ◌+◌, ◌-◌, ◌%◌, ◌^◌, ◌≤◌, Bool, true, false, nat_eq, nat_lt, if◌then◌else◌, length, Some, None, refl, ◌∙◌, arith, length-set}
-use Rattle.std.specs.Prelude.{slice_index}
-use Rattle.std.specs.declared.option.Option.{Option}
-use Rattle.irq_bits.specs.Members.{greatest_vector}
-use Rattle.irq_base.specs.declared.event.Pin.TheVariants as pins
-use Rattle.irq_base.specs.declared.message.Source.{Source}
-use Rattle.irq_base.specs.declared.message.Source.TheVariants.{Resample, Line, Pulse}
-use Rattle.irq_base.specs.declared.message.Targets.{Targets}
+use Rattle.board_step.proofs.Basics.{◌≡◌, ℕ, ◌+◌, ◌-◌, ◌%◌, ◌^◌, ◌≤◌, Bool, true, false, nat_eq, nat_lt, if◌then◌else◌, length, None, refl, ◌∙◌, arith, length-set, ap, sym, subst, [], slice_index, IsTrue, Option}
+use Rattle.board_step.proofs.Types.pins
+use Rattle.board_step.proofs.Types.parts
+use Rattle.board_step.proofs.Types.{greatest_vector, Source, Resample, Line, TickSource, Targets, Shape, signalled_all, signalled, Part, Status, TickState, Call}
+use Rattle.board_step.proofs.Chips.{write_to, pin_accepted, pin_acked, LocalApic, giveable_of, given, without_service, store_to, written, taken, accepted, hold, tick_acked, tick_injected, is_ignored, in_mode, has_resampler, resampled, watched}
+use Rattle.board_step.proofs.Plans.{RegistryPart, Routing, routing_of_registry, ioapic_of, with_ioapic, with_pair, TargetAnswer, About, ValueOf, Board, part_of, with_part}
+use Rattle.board_step.proofs.Calls.{source_of, pic_raised, ioapic_raised, pic_let_go, ioapic_let_go, inject_tick, plan_in_range}
+use Rattle.irq_base.specs.declared.message.Source.TheVariants.{Pulse}
 use Rattle.irq_base.specs.declared.refusal.Refusal.TheVariants.{Over}
-use Rattle.irq_base.specs.declared.shape.Part.TheVariants as parts
-use Rattle.irq_base.specs.declared.shape.Shape.{Shape}
 use Rattle.ioapic_82093aa.specs.declared.ioapic.Ioapic.{Ioapic}
 use Rattle.ioapic_82093aa.specs.declared.registers.Register.{Register}
 use Rattle.ioapic_82093aa.specs.declared.registers.Register.TheVariants as ioregisters
 use Rattle.ioapic_82093aa.specs.Registers.{register_of}
-use Rattle.ioapic_82093aa.specs.Pins.{register_written, write_to}
+use Rattle.ioapic_82093aa.specs.Pins.{register_written}
 use Rattle.board_calls.proofs.Numbers.{service_number, given_number, store_number}
-use Rattle.lapic.specs.Registers.{LocalApic}
-use Rattle.lapic.specs.Priority.{giveable_of, given, without_service}
-use Rattle.lapic.specs.Offsets.{store_to}
-use Rattle.event_counter.specs.Counters.{written}
-use Rattle.board_model.specs.Registry.{RegistryPart}
-use Rattle.board_model.specs.Routing.{Routing}
-use Rattle.board_model.specs.Chips.{ioapic_of}
-use Rattle.board_model.specs.Statuses.{TargetAnswer}
-use Rattle.board_model.specs.Plan.{About}
-use Rattle.board_calls.specs.Registrations.{source_of}
-use Rattle.board_step.proofs.SoundCounts.{counts_signalled, counts_taken, counts_written}
+use Rattle.board_step.proofs.SoundCounts.{counts_signalled, counts_taken, counts_written, counts_signalled_all, NoTriggers}
 use Rattle.board_step.proofs.SoundPlans.{Fine, Each, each_with}
 use Rattle.board_step.proofs.SoundSends.{accepted_number, MayHold}
 use Rattle.board_step.proofs.SoundRegistry.{RegistryFine, resampled_free, watched_free, no_irqfd, irqfd_resamples, may_hold}
-use Rattle.std.proofs.Common.{◌-◌, ap, sym, subst}
-use Rattle.irq_base.specs.Counts.{signalled_all}
-use Rattle.irq_base.specs.declared.message.Source.TheVariants.{Tick as TickSource}
-use Rattle.irq_base.specs.declared.shape.Part.{Part}
-use Rattle.irq_base.specs.declared.status.Status.{Status}
-use Rattle.ioapic_82093aa.specs.Pins.{pin_accepted, pin_acked}
-use Rattle.lapic.specs.Messages.{accepted}
-use Rattle.source_levels.specs.Holds.{hold}
-use Rattle.tick_reinject.specs.declared.state.TickState.{TickState}
-use Rattle.tick_reinject.specs.Ticks.{tick_acked, tick_injected, is_ignored}
-use Rattle.board_model.specs.Board.{ValueOf, Board, part_of, with_part}
-use Rattle.board_model.specs.Chips.{with_ioapic}
-use Rattle.board_model.specs.Routing.{routing_of_registry}
-use Rattle.board_raise.specs.Signal.{pic_raised, ioapic_raised, pic_let_go, ioapic_let_go}
-use Rattle.board_step.proofs.SoundCounts.{counts_signalled_all}
 use Rattle.board_step.proofs.SoundHolds.{hold_more, hold_less}
 use Rattle.board_step.proofs.Walk.{Walk, Holds, Seen}
 use Rattle.board_step.proofs.WalkSignals.{Signals, MayRaise}
 use Rattle.board_step.proofs.WalkKept.{walk, KeptBySignals, KeptByCalls, signals_kept, tick_kept, calls_kept}
-use Rattle.std.proofs.Common.{[]}
-use Rattle.std.specs.Prelude.{IsTrue}
-use Rattle.irq_base.specs.Counts.{signalled}
-use Rattle.irq_base.specs.declared.call.Call.{Call}
-use Rattle.irqfd_set.specs.Rows.{has_resampler}
-use Rattle.resampler.specs.Resample.{resampled}
-use Rattle.ack_notifiers.specs.Rows.{watched}
-use Rattle.event_counter.specs.Counters.{taken}
-use Rattle.tick_reinject.specs.Ticks.{in_mode}
 use Rattle.route_table.proofs.Sound.{no_reason}
-use Rattle.board_model.specs.Chips.{with_pair}
-use Rattle.board_ack.specs.Ticks.{inject_tick}
-use Rattle.board_calls.specs.Calls.{plan_in_range}
-use Rattle.board_step.proofs.SoundCounts.{NoTriggers}
 use Rattle.board_step.proofs.WalkCalls.{is_plain, plain_holds}
 
 pub tick_injected_low : (s : TickState) (status : Status) (bound : ℕ) → s.pending ≤ bound → (tick_injected s status).pending ≤ bound
@@ -88,12 +48,9 @@ resamples_if true e = refl
 resamples_if false e = pulse_is_not e
 
 written_length : (io : Ioapic) (register : Register) (value : ℕ) → length (register_written io register value).after.entries ≡ length io.entries
-written_length io ioregisters.Identity value = refl
-written_length io ioregisters.Version value = refl
-written_length io ioregisters.Arbitration value = refl
 written_length io (ioregisters.LowHalf pin) value = length-set io.entries pin _
 written_length io (ioregisters.HighHalf pin) value = length-set io.entries pin _
-written_length io ioregisters.Reserved value = refl
+written_length io _ value = refl
 
 write_length : (io : Ioapic) (offset value : ℕ) → length (write_to io offset value).after.entries ≡ length io.entries
 write_length io offset value =
@@ -124,7 +81,7 @@ module _ (r : RegistryPart) (shape : Shape) (bound : ℕ) where
         fits parts.Ioapic (ioapic_raised b.ioapic pin source) b each (record { entries = (each parts.Ioapic).entries; holds = hold_more r b.ioapic.holds 24 pins.Ioapic pin source (each parts.Ioapic).holds there.0 there.1 });
   }
 
-  signals_keep : KeptBySignals (Each r shape bound)
+  pub signals_keep : KeptBySignals (Each r shape bound)
   signals_keep = record {
     accepts = λ n apic message seen b each. fits (parts.Lapic n) (accepted apic message) b each (accepted_number apic message ∙ ap (λ (a : LocalApic). a.number) seen.2 ∙ seen.1 (parts.Lapic n));
     remote_irrs = λ pin b each. fits parts.Ioapic (with_ioapic b.ioapic (pin_accepted (ioapic_of b.ioapic) pin)) b each (record { entries = length-set b.ioapic.entries pin _ ∙ (each parts.Ioapic).entries; holds = (each parts.Ioapic).holds });
@@ -133,8 +90,8 @@ module _ (r : RegistryPart) (shape : Shape) (bound : ℕ) where
         fits parts.Ioapic (ioapic_let_go b.ioapic pin source) b each (record { entries = (each parts.Ioapic).entries; holds = hold_less r b.ioapic.holds 24 pins.Ioapic (hold pin source) (each parts.Ioapic).holds });
   }
 
-  pub sound_signals : Signals sound shape.cpus
-  sound_signals = signals_kept (Each r shape bound) signals_keep shape.cpus
+  pub sound_signals : Signals sound
+  sound_signals = signals_kept (Each r shape bound) signals_keep
 
   module _ (fine : RegistryFine shape r) where
     abbrev routing : Routing

@@ -1,48 +1,26 @@
 -- The calls that change the registry lead from a sound board to one.
-use Rattle.std.proofs.Common.{◌≡◌, ℕ, ◌<◌, ◌≤◌, zero, suc, Bool, true, false, true≢false, not, ◌&&◌, ◌||◌, nat_eq, nat_lt, nat_le, inl, inr, List, [], ◌∷◌, ◌++◌, length, get_or, filter, All, Some, None, IfSome, refl, sym, subst, ◌∙◌, arith, length-append}
-use Rattle.std.specs.Prelude.{IsTrue, is_some, AllPairs, slice_get, slice_set, slice_index}
-use Rattle.std.specs.List.{list_any}
-use Rattle.std.specs.Cmp.{nat_eq_equiv}
-use Rattle.std.specs.declared.option.Option.{Option}
-use Rattle.std.proofs.lemmas.Bool.Decides.{eqb_tells}
-use Rattle.std.proofs.lemmas.List.Elements.{All-push, All-filter, All-weaker}
-use Rattle.std.proofs.lemmas.List.Folds.{list_any-append}
-use Rattle.std.proofs.lemmas.List.Kept.{AllPairs-filter}
-use Rattle.irq_base.specs.Refusals.{first_of}
-use Rattle.irq_base.specs.declared.event.Pin.{Pin}
-use Rattle.irq_base.specs.declared.event.Pin.TheVariants as pins
-use Rattle.irq_base.specs.declared.refusal.Refusal.{Refusal}
-use Rattle.irq_base.specs.declared.refusal.Refusal.TheVariants.{Busy, RoleClash, Exists, Full}
-use Rattle.irq_base.specs.declared.reply.Reply.TheVariants.{Done}
-use Rattle.irq_base.specs.declared.shape.Part.TheVariants as parts
-use Rattle.irq_base.specs.declared.shape.Shape.{Shape}
-use Rattle.irqfd_set.specs.declared.irqfds.Irqfd.{Irqfd}
-use Rattle.irqfd_set.specs.Rows as irqfds
-use Rattle.ack_notifiers.specs.declared.watches.Watch.{Watch}
-use Rattle.ack_notifiers.specs.Rows as watches
-use Rattle.ioevent_set.specs.declared.row.IoRow.{IoRow}
-use Rattle.ioevent_set.specs.Rows as ioevents
-use Rattle.route_table.specs.Rows.{targets_of}
+use Rattle.board_step.proofs.Basics.{◌≡◌, ℕ, ◌<◌, ◌≤◌, zero, suc, Bool, true, false, not, ◌&&◌, ◌||◌, nat_eq, nat_lt, nat_le, inl, inr, List, [], ◌∷◌, ◌++◌, length, get_or, filter, All, Some, None, refl, sym, subst, ◌∙◌, arith, length-append, IsTrue, is_some, AllPairs, slice_get, slice_set, slice_index, list_any, Option, eqb_tells, All-push, All-filter, All-weaker, list_any-append, AllPairs-filter}
+use Rattle.board_step.proofs.Types.pins
+use Rattle.board_step.proofs.Types.parts
+use Rattle.board_step.proofs.Types.{first_of, Pin, Refusal, Busy, RoleClash, Full, Done, Shape, Irqfd, Watch, IoRow}
+use Rattle.board_step.proofs.Chips.irqfds
+use Rattle.board_step.proofs.Chips.watches
+use Rattle.board_step.proofs.Chips.ioevents
+use Rattle.board_step.proofs.Chips.{targets_of, taken}
+use Rattle.board_step.proofs.Plans.{RegistryPart, routing_of_registry, IsSoundIrqfd, Board, injected, Plan, reply, ◌>>◌, Wishes, run}
+use Rattle.board_step.proofs.Calls.{IrqfdFits, WatchFits, is_trigger, is_counter, has_resample, is_signalled, resample_clashes, assign_reasons, attach_reasons, detach_reasons, watch_reasons, unwatch_reasons, unless_refused, source_of, inject_count, assign, attach, detach, watch, unwatch}
+use Rattle.std.proofs.Common.{IfSome}
+use Rattle.irq_base.specs.declared.refusal.Refusal.TheVariants.{Exists}
 use Rattle.route_table.proofs.Sound.{no_reason}
-use Rattle.event_counter.specs.Counters.{taken}
-use Rattle.board_model.specs.Registry.{RegistryPart}
-use Rattle.board_model.specs.Routing.{routing_of_registry}
-use Rattle.board_model.specs.Published.{IsSoundIrqfd}
-use Rattle.board_model.specs.Board.{Board}
-use Rattle.board_model.specs.Plan.{injected, Plan, reply, ◌>>◌}
-use Rattle.board_model.specs.Run.{Wishes, run}
-use Rattle.board_raise.specs.Fit.{IrqfdFits, WatchFits}
-use Rattle.board_calls.specs.Refusals.{is_trigger, is_counter, has_resample, is_signalled, resample_clashes, assign_reasons, attach_reasons, detach_reasons, watch_reasons, unwatch_reasons}
-use Rattle.board_calls.specs.Registrations.{unless_refused, source_of, inject_count, assign, attach, detach, watch, unwatch}
 use Rattle.board_step.specs.Sound.{HasResampler}
 use Rattle.board_step.proofs.SoundCounts.{CountsFine, counts_taken}
 use Rattle.board_step.proofs.SoundPlans.{Each}
 use Rattle.board_step.proofs.SoundSends.{MayHold}
 use Rattle.board_step.proofs.Walk.{Holds, after}
-use Rattle.board_step.proofs.WalkSignals.{inject_only}
+use Rattle.board_step.proofs.WalkCalls.{inject_count_holds}
 use Rattle.board_step.proofs.WalkKept.{shows}
 use Rattle.board_step.proofs.SoundRegistry.{RegistryFine, may_hold}
-use Rattle.board_step.proofs.SoundCalls.{resamples_if, sound, may_raise, sound_signals}
+use Rattle.board_step.proofs.SoundCalls.{resamples_if, sound, may_raise, signals_keep, sound_signals}
 use Rattle.board_step.proofs.SoundRows.{or_neither, or_both, each_fails, pairs_push, none_fewer, length_fewer}
 
 -- a board whose registry is sound, and each part with it
@@ -79,10 +57,7 @@ turned_one : (a b : ℕ) → nat_eq a b ≡ false → nat_eq b a ≡ false
 turned_one a b e = grind arith
 
 turned : (a b c d : ℕ) → (nat_eq c a && nat_eq d b) ≡ false → (nat_eq a c && nat_eq b d) ≡ false
-turned a b c d e = (λ i. turn a c i && turn b d i) ∙ e
-  where
-    turn : (m n : ℕ) → nat_eq m n ≡ nat_eq n m
-    turn m n = nat_eq_equiv.symm m n
+turned a b c d h1 = grind arith
 
 -- a test of an element more, which it fails
 none_more : {X : Type 0} (p : X → Bool) (xs : List X) (x : X) → list_any p xs ≡ false → p x ≡ false → list_any p (xs ++ x ∷ []) ≡ false
@@ -183,12 +158,10 @@ written_zero (x ∷ xs) zero y e = cc
 written_zero (x ∷ xs) (suc i) y e = written_zero xs i y e
 
 or_found : (a b : Bool) → (a || b) ≡ true → b ≡ false → a ≡ true
-or_found true b e f = refl
-or_found false b e f = absurd (true≢false (sym e ∙ f))
+or_found a b h1 h2 = grind arith
 
 or_there : (a b : Bool) → b ≡ true → (a || b) ≡ true
-or_there true b e = refl
-or_there false b e = e
+or_there a b h1 = grind arith
 
 -- a row with a resample counter is a resampler of its GSI
 pub own_row : (r : RegistryPart) (row : Irqfd) → is_some row.resample ≡ true → irqfds.has_resampler (r.irqfds ++ row ∷ []) row.gsi ≡ true
@@ -202,8 +175,7 @@ pub more_resampler : (r : RegistryPart) (row : Irqfd) (pin : Pin) → HasResampl
 more_resampler r row pin h = record { gsi = h.gsi; named = h.named; resamples = list_any-append (irqfds.resamples h.gsi) r.irqfds (row ∷ []) ∙ or_here (irqfds.has_resampler r.irqfds h.gsi) (list_any (irqfds.resamples h.gsi) (row ∷ [])) h.resamples }
   where
     or_here : (a b : Bool) → a ≡ true → (a || b) ≡ true
-    or_here true b e = refl
-    or_here false b e = cc
+    or_here a b h1 = grind arith
 
 -- a row is there, and the count of its trigger is 0
 assigned_each : (shape : Shape) (bound : ℕ) (r : RegistryPart) (row : Irqfd) (b : Board) → Each r shape bound b → Each (record r { irqfds = r.irqfds ++ row ∷ [] }) shape bound (record b { registry = record r { irqfds = r.irqfds ++ row ∷ [] }; counters = taken b.counters row.trigger })
@@ -249,13 +221,12 @@ module _ (shape : Shape) (bound : ℕ) (b : Board) (ws : Wishes) (w : Whole shap
       }
 
   inject_count_keeps : (row : Irqfd) (some : Bool) → Holds (sound (record b.registry { irqfds = b.registry.irqfds ++ row ∷ [] }) shape bound) (inject_count (routing_of_registry b.registry shape.tick) shape row.gsi row.resample some)
-  inject_count_keeps row false = λ b ws each. each
-  inject_count_keeps row true =
+  inject_count_keeps row =
       let s : RegistryPart = record b.registry { irqfds = b.registry.irqfds ++ row ∷ [] } in
       let may : MayHold s (targets_of b.registry.table row.gsi) (source_of (is_some row.resample)) = may_hold s w.fine.sound.table row.gsi (source_of (is_some row.resample))
       (λ is. own_row b.registry row (resamples_if (is_some row.resample) is)) in
-      inject_only (sound s shape bound) shape.cpus (sound_signals s shape bound) (targets_of b.registry.table row.gsi) (source_of (is_some row.resample)) (may_raise s shape bound (targets_of b.registry.table row.gsi) (source_of (is_some row.resample)) may)
-      (λ pic. injected row.gsi pic) (λ pic. shows (Each s shape bound) (injected row.gsi pic))
+      inject_count_holds (sound s shape bound) (routing_of_registry b.registry shape.tick) shape (sound_signals s shape bound) row.gsi row.resample (may_raise s shape bound (targets_of b.registry.table row.gsi) (source_of (is_some row.resample)) may)
+      (λ pic. shows (Each s shape bound) (signals_keep s shape bound) (injected row.gsi pic))
 
   pub assign_whole : (trigger gsi : ℕ) (resample : Option ℕ) → shape.counters ≤ 256 → trigger < shape.counters → gsi < 4096 → IfSome resample (λ c. c < shape.counters) → Whole shape bound (run (assign (routing_of_registry b.registry shape.tick) shape trigger gsi resample) b ws).board
   assign_whole trigger gsi resample few below low named = unless_whole shape bound b ws (first_of (assign_reasons b.registry trigger resample)) _ w (λ none.

@@ -1,16 +1,12 @@
 -- Holds that stand: one more, or fewer.
-use Rattle.std.proofs.Common.{◌≡◌, ℕ, ◌<◌, Bool, true, false, not, ◌&&◌, ◌||◌, inl, inr, refl, sym, ap, subst, ◌∙◌}
-use Rattle.std.specs.Prelude.{IsTrue, ◌⊎◌}
-use Rattle.std.specs.Cmp.{first_so, second_so, tied_itself}
-use Rattle.std.specs.FinSet as set
-use Rattle.std.specs.FinSet.{contains-insert, contains-remove, contains-retain}
-use Rattle.std.specs.Ordering.{eq_by_cmp, is_eq}
-use Rattle.irq_base.specs.declared.event.Pin.{Pin}
-use Rattle.irq_base.specs.declared.message.Source.{Source}
-use Rattle.irq_base.specs.declared.message.Source.TheVariants.{Resample}
-use Rattle.source_levels.specs.Holds.{Hold, Holds, hold, hold_cmp}
+use Rattle.board_step.proofs.Basics.set
+use Rattle.board_step.proofs.Basics.{◌≡◌, ℕ, ◌<◌, Bool, true, false, not, ◌&&◌, ◌||◌, inl, inr, refl, sym, ap, subst, ◌∙◌, IsTrue, first_so, second_so, tied_itself, contains-insert, contains-remove, eq_by_cmp, is_eq}
+use Rattle.board_step.proofs.Types.{Pin, Source, Resample}
+use Rattle.board_step.proofs.Chips.{Hold, Holds, hold, hold_cmp}
+use Rattle.board_step.proofs.Plans.{RegistryPart}
+use Rattle.std.specs.Prelude.{◌⊎◌}
+use Rattle.std.specs.FinSet.{contains-retain}
 use Rattle.source_levels.proofs.HoldLemmas.{hold_cmp_total, hold_cmp-IsAntisymmetric, tied_same}
-use Rattle.board_model.specs.Registry.{RegistryPart}
 use Rattle.board_step.specs.Sound.{HasResampler, ResamplersHold, HoldsStand}
 
 inserted : (holds : Holds) (k q : Hold) → IsTrue (set.contains (set.insert holds k) q) → (q ≡ k) ⊎ IsTrue (set.contains holds q)

@@ -1,37 +1,15 @@
 -- An irqfd that ends, and a routing table that is replaced, lead from a sound board to one.
-use Rattle.std.proofs.Common.{◌≡◌, ◌≢◌, ℕ, Bool, true, false, true≢false, not, ◌&&◌, inl, inr, List, filter, All, Some, None, refl, sym, ap, subst, ◌∙◌}
-use Rattle.std.specs.Prelude.{IsTrue, AllPairs, is_some}
-use Rattle.std.specs.FinSet as set
-use Rattle.std.specs.List.{list_any}
-use Rattle.std.specs.Cmp.{unsigned_Decides}
-use Rattle.std.specs.declared.option.Option.{Option}
-use Rattle.std.proofs.lemmas.Bool.Decides.{eqb_tells}
-use Rattle.std.proofs.lemmas.List.Elements.{All-filter, All-weaker}
-use Rattle.std.proofs.lemmas.List.Kept.{AllPairs-filter}
-use Rattle.irq_base.specs.declared.call.Row.{Row}
-use Rattle.irq_base.specs.declared.event.Pin.{Pin}
-use Rattle.irq_base.specs.declared.event.Pin.TheVariants as pins
-use Rattle.irq_base.specs.declared.message.Source.TheVariants.{Resample}
-use Rattle.irq_base.specs.declared.reply.Reply.TheVariants.{Removed}
-use Rattle.irq_base.specs.declared.shape.Part.TheVariants as parts
-use Rattle.irq_base.specs.declared.shape.Shape.{Shape}
-use Rattle.source_levels.specs.Holds.{Hold, Holds, hold}
-use Rattle.irqfd_set.specs.declared.irqfds.Irqfd.{Irqfd}
-use Rattle.irqfd_set.specs.Rows.{has_trigger, is_named, has_resampler, named_row, without_row}
-use Rattle.ack_notifiers.specs.Rows.{has_counter}
-use Rattle.route_table.specs.Rows.{is_same, table_of, targets_of, refusal_of}
-use Rattle.route_table.specs.Pins.{gsi_of}
-use Rattle.board_model.specs.Registry.{RegistryPart}
-use Rattle.board_model.specs.Routing.{routing_of_registry}
-use Rattle.board_model.specs.Published.{IsSoundIrqfd}
-use Rattle.board_model.specs.Board.{Board}
-use Rattle.board_model.specs.Plan.{reply, ◌>>◌}
-use Rattle.board_model.specs.Run.{Wishes, run}
-use Rattle.board_raise.specs.Fit.{IrqfdFits}
-use Rattle.board_raise.specs.Signal.{let_go_pic, let_go_ioapic}
+use Rattle.board_step.proofs.Basics.set
+use Rattle.board_step.proofs.Basics.{◌≡◌, ◌≢◌, ℕ, Bool, true, false, true≢false, not, ◌&&◌, inl, inr, List, filter, All, Some, None, refl, sym, ap, subst, ◌∙◌, IsTrue, AllPairs, is_some, list_any, unsigned_Decides, Option, eqb_tells, All-filter, All-weaker, AllPairs-filter}
+use Rattle.board_step.proofs.Types.pins
+use Rattle.board_step.proofs.Types.parts
+use Rattle.board_step.proofs.Types.{Row, Pin, Resample, Removed, Shape, Irqfd}
+use Rattle.board_step.proofs.Chips.{Hold, Holds, hold, has_trigger, is_named, has_resampler, named_row, without_row, has_counter, table_of, targets_of, refusal_of, gsi_of}
+use Rattle.board_step.proofs.Plans.{RegistryPart, routing_of_registry, IsSoundIrqfd, Board, reply, ◌>>◌, Wishes, run}
+use Rattle.board_step.proofs.Calls.{IrqfdFits, let_go_pic, let_go_ioapic, is_trigger, has_resample, is_signalled, was_last_resampler, release, deassigned, deassign, kept_holds, reroute}
+use Rattle.route_table.specs.Rows.{is_same}
 use Rattle.board_step.specs.Laws.{PayloadFits}
-use Rattle.board_calls.specs.Refusals.{is_trigger, has_resample, is_signalled}
-use Rattle.board_calls.specs.Registrations.{was_last_resampler, release, deassigned, deassign, is_same_gsi, keeps_gsi, kept_holds, reroute}
+use Rattle.board_calls.specs.Registrations.{is_same_gsi, keeps_gsi}
 use Rattle.board_step.specs.Sound.{HasResampler, ResamplersHold, HoldsStand}
 use Rattle.board_step.proofs.SoundHolds.{was_held, not_removed, retained}
 use Rattle.board_step.proofs.SoundPlans.{Each}

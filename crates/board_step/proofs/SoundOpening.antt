@@ -1,24 +1,13 @@
 -- A board at power-on is sound.
-use Rattle.std.proofs.Common.{◌≡◌, ℕ, ◌+◌, ◌-◌, ◌^◌, ◌<◌, ◌≤◌, zero, suc, false, true≢false, List, [], ◌∷◌, ◌++◌, map, length, refl, sym, ap, subst, ◌∙◌, arith, length-append}
-use Rattle.std.specs.Prelude.{IsTrue, AllPairs, slice_get, unwrap_or}
-use Rattle.std.specs.FinSet as set
-use Rattle.std.specs.FinSet.{contains-empty}
-use Rattle.std.proofs.lemmas.List.{length-replicate}
-use Rattle.std.proofs.lemmas.List.Elements.{All-nil, All-replicate}
-use Rattle.irq_base.specs.declared.event.Pin.{Pin}
-use Rattle.irq_base.specs.declared.message.Source.TheVariants.{Resample}
-use Rattle.lapic.specs.Registers.{LocalApic, power_on}
-use Rattle.source_levels.specs.Holds.{Hold, hold, hold_cmp}
-use Rattle.irqfd_set.specs.declared.irqfds.Irqfd.{Irqfd}
-use Rattle.ack_notifiers.specs.declared.watches.Watch.{Watch}
-use Rattle.ioevent_set.specs.declared.row.IoRow.{IoRow}
-use Rattle.irqfd_set.specs.Rows.{has_trigger}
+use Rattle.board_step.proofs.Basics.set
+use Rattle.board_step.proofs.Basics.{◌≡◌, ℕ, ◌+◌, ◌-◌, ◌^◌, ◌<◌, ◌≤◌, zero, suc, false, true≢false, List, [], ◌∷◌, ◌++◌, map, length, refl, sym, ap, subst, ◌∙◌, arith, length-append, IsTrue, AllPairs, slice_get, unwrap_or, contains-empty, length-replicate, All-nil}
+use Rattle.board_step.proofs.Types.{Pin, Resample, Irqfd, Watch, IoRow}
+use Rattle.board_step.proofs.Chips.{LocalApic, power_on, Hold, hold, hold_cmp, has_trigger}
+use Rattle.board_step.proofs.Plans.{RegistryPart, IsSoundIrqfd}
+use Rattle.board_step.proofs.Calls.{IrqfdFits, WatchFits, numbers_below}
+use Rattle.std.proofs.lemmas.List.Elements.{All-replicate}
 use Rattle.ack_notifiers.specs.Rows.{is_named}
 use Rattle.ioevent_set.specs.Rows.{do_collide}
-use Rattle.board_model.specs.Registry.{RegistryPart}
-use Rattle.board_model.specs.Published.{IsSoundIrqfd}
-use Rattle.board_raise.specs.Fit.{IrqfdFits, WatchFits}
-use Rattle.board_raise.specs.Send.{numbers_below}
 use Rattle.board_step.specs.History.{opening_registry}
 use Rattle.board_step.specs.Sound.{HoldsStand}
 use Rattle.board_step.specs.Laws.{OpeningIsSound}

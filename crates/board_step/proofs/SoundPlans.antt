@@ -1,14 +1,9 @@
 -- Each part of a board as a sound board has it.
-use Rattle.std.proofs.Common.{◌≡◌, ℕ, ◌≤◌, zero, suc, true, false, nat_eq, List, [], ◌∷◌, length, refl, ap, subst, ◌∙◌, arith}
-use Rattle.std.specs.Prelude.{slice_get, slice_set, unwrap_or}
-use Rattle.irq_base.specs.declared.event.Pin.TheVariants as pins
-use Rattle.irq_base.specs.declared.shape.Part.{Part}
-use Rattle.irq_base.specs.declared.shape.Part.TheVariants.{Registry, Counters, Tick, Pic, Ioapic, Lapic}
-use Rattle.irq_base.specs.declared.shape.Shape.{Shape}
-use Rattle.lapic.specs.Registers.{LocalApic, power_on}
-use Rattle.board_model.specs.Registry.{RegistryPart}
-use Rattle.board_model.specs.Chips.{IoapicPart}
-use Rattle.board_model.specs.Board.{ValueOf, Board, part_of, with_part}
+use Rattle.board_step.proofs.Basics.{◌≡◌, ℕ, ◌≤◌, zero, suc, true, false, nat_eq, List, [], ◌∷◌, length, refl, ap, subst, ◌∙◌, arith, slice_get, slice_set, unwrap_or}
+use Rattle.board_step.proofs.Types.pins
+use Rattle.board_step.proofs.Types.{Part, Registry, Counters, Tick, Pic, Ioapic, Lapic, Shape}
+use Rattle.board_step.proofs.Chips.{LocalApic, power_on}
+use Rattle.board_step.proofs.Plans.{RegistryPart, IoapicPart, ValueOf, Board, part_of, with_part}
 use Rattle.board_model.proofs.Lens.{part_of-with_other}
 use Rattle.board_step.specs.Sound.{HoldsStand}
 use Rattle.board_step.proofs.SoundCounts.{CountsFine}
@@ -37,42 +32,13 @@ module _ (r : RegistryPart) (shape : Shape) (bound : ℕ) where
 
   pub each_with : (b : Board) (p : Part) (v : ValueOf p) → Each b → Fine p v → Each (with_part b p v)
   each_with b Registry v each fine Registry = fine
-  each_with b Registry v each fine Counters = each Counters
-  each_with b Registry v each fine Tick = each Tick
-  each_with b Registry v each fine Pic = each Pic
-  each_with b Registry v each fine Ioapic = each Ioapic
-  each_with b Registry v each fine (Lapic m) = each (Lapic m)
-  each_with b Counters v each fine Registry = each Registry
   each_with b Counters v each fine Counters = fine
-  each_with b Counters v each fine Tick = each Tick
-  each_with b Counters v each fine Pic = each Pic
-  each_with b Counters v each fine Ioapic = each Ioapic
-  each_with b Counters v each fine (Lapic m) = each (Lapic m)
-  each_with b Tick v each fine Registry = each Registry
-  each_with b Tick v each fine Counters = each Counters
   each_with b Tick v each fine Tick = fine
-  each_with b Tick v each fine Pic = each Pic
-  each_with b Tick v each fine Ioapic = each Ioapic
-  each_with b Tick v each fine (Lapic m) = each (Lapic m)
-  each_with b Pic v each fine Registry = each Registry
-  each_with b Pic v each fine Counters = each Counters
-  each_with b Pic v each fine Tick = each Tick
   each_with b Pic v each fine Pic = fine
-  each_with b Pic v each fine Ioapic = each Ioapic
-  each_with b Pic v each fine (Lapic m) = each (Lapic m)
-  each_with b Ioapic v each fine Registry = each Registry
-  each_with b Ioapic v each fine Counters = each Counters
-  each_with b Ioapic v each fine Tick = each Tick
-  each_with b Ioapic v each fine Pic = each Pic
   each_with b Ioapic v each fine Ioapic = fine
-  each_with b Ioapic v each fine (Lapic m) = each (Lapic m)
-  each_with b (Lapic n) v each fine Registry = each Registry
-  each_with b (Lapic n) v each fine Counters = each Counters
-  each_with b (Lapic n) v each fine Tick = each Tick
-  each_with b (Lapic n) v each fine Pic = each Pic
-  each_with b (Lapic n) v each fine Ioapic = each Ioapic
   each_with b (Lapic n) v each fine (Lapic m) =
       elim (nat_eq n m) as (λ t. nat_eq n m ≡ t → (part_of (with_part b (Lapic n) v) (Lapic m)).number ≡ m) [
         | true ↦ λ e. let same : n ≡ m = grind (arith, e) in subst (λ (k : ℕ). (part_of (with_part b (Lapic n) v) (Lapic k)).number ≡ k) same (number_set b.lapics n n v (power_on n) fine refl)
         | false ↦ λ e. ap (λ (a : LocalApic). a.number) (part_of-with_other b (Lapic n) (Lapic m) v e) ∙ each (Lapic m)
       ] refl
+  each_with b _ v each fine part = each part

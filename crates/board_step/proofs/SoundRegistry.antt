@@ -1,35 +1,17 @@
 -- What a sound registry tells of triggers, of signalled counters and of pins.
-use Rattle.std.proofs.Common.{◌≡◌, ℕ, ◌<◌, Bool, true, false, true≢false, cond, ◌&&◌, ◌||◌, nat_eq, if◌then◌else◌, List, [], ◌∷◌, map, filter, All, Some, None, refl, sym, ap, subst, ◌∙◌}
-use Rattle.std.specs.Prelude.{IsTrue, option_map, filter_map, find}
-use Rattle.std.specs.List.{list_any, cons_option}
-use Rattle.std.specs.Cmp.{first_so, second_so, unsigned_Decides}
-use Rattle.std.specs.declared.option.Option.{Option}
-use Rattle.std.proofs.lemmas.List.Elements.{All-head, All-tail}
+use Rattle.board_step.proofs.Basics.{◌≡◌, ℕ, ◌<◌, Bool, true, false, true≢false, cond, ◌&&◌, ◌||◌, nat_eq, if◌then◌else◌, List, [], ◌∷◌, map, filter, All, Some, None, refl, sym, ap, subst, ◌∙◌, IsTrue, filter_map, find, list_any, cons_option, first_so, second_so, unsigned_Decides, Option, All-head, All-tail}
+use Rattle.board_step.proofs.Types.pins
+use Rattle.board_step.proofs.Types.{Pin, MsiWord, Source, Resample, Shape, Irqfd, Watch, Row, TriggerWord}
+use Rattle.board_step.proofs.Chips.{has_trigger, resamples, of_trigger, has_resampler, resample_of, resampled, watched, has_counter, Table, table_of, targets_of, refusal_of, has_pin, gsi_of}
+use Rattle.board_step.proofs.Plans.{RegistryPart, trigger_of, IsSoundTable, IsSoundRegistry}
+use Rattle.board_step.proofs.Calls.{RegistrationsFit, is_trigger, is_counter, has_resample, is_signalled}
+use Rattle.std.specs.Prelude.{option_map}
 use borrow.Author.Tests.{ltb-true}
-use Rattle.irq_base.specs.declared.event.Pin.{Pin}
-use Rattle.irq_base.specs.declared.event.Pin.TheVariants as pins
-use Rattle.irq_base.specs.declared.message.MsiWord.{MsiWord}
-use Rattle.irq_base.specs.declared.message.Source.{Source}
-use Rattle.irq_base.specs.declared.message.Source.TheVariants.{Resample}
-use Rattle.irq_base.specs.declared.shape.Shape.{Shape}
-use Rattle.irqfd_set.specs.declared.irqfds.Irqfd.{Irqfd}
-use Rattle.irqfd_set.specs.Rows.{has_trigger, resamples, of_trigger, has_resampler}
-use Rattle.resampler.specs.Resample.{resample_of, resampled}
-use Rattle.ack_notifiers.specs.declared.watches.Watch.{Watch}
-use Rattle.ack_notifiers.specs.Rows.{watched, has_counter}
 use Rattle.route_table.specs.Words.{is_below, is_route_of}
-use Rattle.irq_base.specs.declared.call.Row.{Row}
-use Rattle.route_table.specs.Rows.{Table, is_same, table_of, targets_of, refusal_of}
-use Rattle.route_table.specs.Pins.{has_pin, gsi_of}
+use Rattle.route_table.specs.Rows.{is_same}
 use Rattle.route_table.proofs.Sound.{sound_of}
 use Rattle.route_table.proofs.TableLaws.{is_same-some}
 use Rattle.route_table.proofs.Given.{gsi_of_pin, pin_of_gsi}
-use Rattle.board_model.specs.declared.trigger.TriggerWord.{TriggerWord}
-use Rattle.board_model.specs.Registry.{RegistryPart}
-use Rattle.board_model.specs.Routing.{trigger_of}
-use Rattle.board_model.specs.Published.{IsSoundTable, IsSoundRegistry}
-use Rattle.board_raise.specs.Fit.{RegistrationsFit}
-use Rattle.board_calls.specs.Refusals.{is_trigger, is_counter, has_resample, is_signalled}
 use Rattle.board_step.specs.Sound.{HasResampler, AreDistinct}
 use Rattle.board_step.proofs.SoundCounts.{NoTriggers}
 use Rattle.board_step.proofs.SoundSends.{MayHold}

@@ -1,20 +1,15 @@
 -- What registrations keep when a row comes or goes.
-use Rattle.std.proofs.Common.{◌≡◌, ◌≢◌, ℕ, ◌≤◌, suc, Bool, true, false, true≢false, cond, not, ◌&&◌, ◌||◌, nat_eq, List, [], ◌∷◌, ◌++◌, length, filter, All, Some, refl, sym, ap, subst, ◌∙◌, arith}
-use Rattle.std.specs.Prelude.{is_some, find, AllPairs}
-use Rattle.std.specs.List.{list_any, AllByRecursion}
-use Rattle.std.specs.Cmp.{first_so, second_so, unsigned_Decides}
+use Rattle.board_step.proofs.Basics.{◌≡◌, ◌≢◌, ℕ, ◌≤◌, suc, Bool, true, false, true≢false, cond, not, ◌&&◌, ◌||◌, nat_eq, List, [], ◌∷◌, ◌++◌, length, filter, All, Some, refl, sym, ap, subst, ◌∙◌, arith, is_some, find, AllPairs, list_any, AllByRecursion, first_so, second_so, unsigned_Decides}
+use Rattle.board_step.proofs.Types.{Irqfd}
+use Rattle.board_step.proofs.Chips.{has_trigger, is_named, resamples, has_resampler, named_row, without_row}
 use Rattle.std.proofs.lemmas.List.Elements.{All-from_recursion, recursion_from_All}
 use Rattle.std.proofs.lemmas.List.Quantifiers.{all_pairs_push}
-use Rattle.irqfd_set.specs.declared.irqfds.Irqfd.{Irqfd}
-use Rattle.irqfd_set.specs.Rows.{has_trigger, is_named, resamples, has_resampler, named_row, without_row}
 
 pub or_neither : (a b : Bool) → (a || b) ≡ false → (a ≡ false) × (b ≡ false)
-or_neither true b e = cc
-or_neither false b e = (refl, e)
+or_neither a b h1 = grind arith
 
 pub or_both : (a b : Bool) → a ≡ false → b ≡ false → (a || b) ≡ false
-or_both true b e f = cc
-or_both false b e f = f
+or_both a b h1 h2 = grind arith
 
 fails_on : {X : Type 0} (p : X → Bool) (xs : List X) → list_any p xs ≡ false → AllByRecursion (λ x. p x ≡ false) xs
 fails_on p [] none = tt

@@ -1,13 +1,9 @@
 -- Which pins a source may hold, and that a message leaves the number of a local APIC.
-use Rattle.std.proofs.Common.{◌≡◌, ℕ, ◌<◌, true, false, not, nat_lt, if◌then◌else◌, Some, refl}
-use Rattle.irq_base.specs.declared.event.Pin.TheVariants as pins
-use Rattle.irq_base.specs.declared.message.Message.{Message}
-use Rattle.irq_base.specs.declared.message.Source.{Source}
-use Rattle.irq_base.specs.declared.message.Source.TheVariants.{Resample}
-use Rattle.irq_base.specs.declared.message.Targets.{Targets}
-use Rattle.lapic.specs.Registers.{LocalApic, is_enabled}
-use Rattle.lapic.specs.Messages.{is_nmi, accepted, with_error, with_request}
-use Rattle.board_model.specs.Registry.{RegistryPart}
+use Rattle.board_step.proofs.Basics.{◌≡◌, ℕ, ◌<◌, true, false, not, nat_lt, if◌then◌else◌, Some, refl}
+use Rattle.board_step.proofs.Types.pins
+use Rattle.board_step.proofs.Types.{Message, Source, Resample, Targets}
+use Rattle.board_step.proofs.Chips.{LocalApic, is_enabled, is_nmi, accepted, with_error, with_request}
+use Rattle.board_step.proofs.Plans.{RegistryPart}
 use Rattle.board_step.specs.Sound.{HasResampler}
 
 -- a message leaves the number

@@ -1,34 +1,21 @@
 -- A step from a sound board leads to a sound board.
-use Rattle.std.proofs.Common.{◌≡◌, ℕ, ◌+◌, ◌<◌, ◌≤◌, Bool, true, false, All, ◌&&◌, nat_eq, nat_le, if◌then◌else◌, List, [], ◌∷◌, length, Some, None, IfSome, refl, sym, subst, ◌∙◌, arith}
-use Rattle.std.specs.declared.option.Option.{Option}
-use Rattle.irq_base.specs.Refusals.{first_of}
-use Rattle.irq_base.specs.declared.call.Call.{Call}
-use Rattle.irq_base.specs.declared.call.Call.TheVariants.{Line, Msi, Write, Take, Assign, Deassign, Reroute, Attach, Detach, Watch, Unwatch, Tick, TickMode, PortOut, PortIn, Store, Load, Ack, Inta, Eoi}
-use Rattle.irq_base.specs.declared.call.Caller.{Caller}
-use Rattle.irq_base.specs.declared.lists.Entry.{Entry}
+use Rattle.board_step.proofs.Basics.{◌≡◌, ℕ, ◌+◌, ◌<◌, ◌≤◌, Bool, true, false, All, ◌&&◌, nat_eq, nat_le, if◌then◌else◌, List, [], ◌∷◌, length, Some, None, refl, sym, subst, ◌∙◌, arith, Option, All-head, All-tail}
+use Rattle.board_step.proofs.Types.parts
+use Rattle.board_step.proofs.Types.{first_of, Call, Assign, Deassign, Reroute, Attach, Detach, Unwatch, Caller, Entry, Calls, Publications, Shape, TickState}
+use Rattle.board_step.proofs.Chips.{ticked, tick_injects}
+use Rattle.board_step.proofs.Plans.{RegistryPart, Routing, routing_of_registry, Board, the_reply, Wishes, run}
+use Rattle.board_step.proofs.Calls.{InLimits, range_reasons, tick_or_hold, number_of, io_row, plan_in_range}
+use Rattle.std.proofs.Common.{IfSome}
+use Rattle.irq_base.specs.declared.call.Call.TheVariants.{Watch, Tick}
 use Rattle.irq_base.specs.declared.refusal.Refusal.TheVariants.{NoGsi, NoCounter, BadRange, ChipAddress}
-use Rattle.irq_base.specs.declared.reply.Spent.{Spent}
-use Rattle.irq_base.specs.declared.reply.Spent.TheVariants.{Calls, Publications}
-use Rattle.irq_base.specs.declared.shape.Part.TheVariants as parts
-use Rattle.irq_base.specs.declared.shape.Shape.{Shape}
-use Rattle.tick_reinject.specs.declared.state.TickState.{TickState}
-use Rattle.tick_reinject.specs.Ticks.{ticked, tick_injects}
-use Rattle.board_model.specs.Registry.{RegistryPart}
-use Rattle.board_model.specs.Routing.{Routing, routing_of_registry}
-use Rattle.board_model.specs.Board.{Board}
-use Rattle.board_model.specs.Plan.{the_reply}
-use Rattle.board_model.specs.Run.{Wishes, run}
 use Rattle.board_model.proofs.Staying.{frame_stays}
-use Rattle.board_raise.specs.Fit.{InLimits}
 use Rattle.board_step.specs.Laws.{IsTyped, StepsKeepSound, HistoriesKeepSound}
 use Rattle.board_step.specs.History.{opening, Leads}
 use Rattle.board_step.proofs.SoundOpening.{opening_is_sound}
-use Rattle.std.proofs.lemmas.List.Elements.{All-head, All-tail}
-use Rattle.board_calls.specs.Refusals.{range_reasons, bad_gsi, bad_counter, bad_resample, bad_ioevent, is_chip_address}
-use Rattle.board_calls.specs.Ticks.{tick_or_hold}
-use Rattle.board_calls.specs.Calls.{number_of, io_row, plan_in_range}
+use Rattle.board_calls.specs.Refusals.{bad_gsi, bad_counter, bad_resample, bad_ioevent, is_chip_address}
 use Rattle.board_step.specs.Step.{would_publish, plan_on, with_counts}
 use Rattle.board_step.specs.Sound.{IsSound}
+use Rattle.board_step.proofs.SoundCounts.{CountsFine}
 use Rattle.board_step.proofs.SoundPlans.{Each, each_with}
 use Rattle.board_step.proofs.Walk.{Holds}
 use Rattle.board_step.proofs.WalkCalls.{is_plain}
@@ -41,27 +28,16 @@ use Rattle.route_table.proofs.Sound.{no_reason}
 -- ---- a tick more may be pending
 
 wider : (r : RegistryPart) (shape : Shape) (low high : ℕ) (b : Board) → low ≤ high → Each r shape low b → Each r shape high b
-wider r shape low high b more each parts.Registry = each parts.Registry
-wider r shape low high b more each parts.Counters = each parts.Counters
 wider r shape low high b more each parts.Tick = let few : b.tick.pending ≤ low = each parts.Tick in omega (arith, few, more)
-wider r shape low high b more each parts.Pic = each parts.Pic
-wider r shape low high b more each parts.Ioapic = each parts.Ioapic
-wider r shape low high b more each (parts.Lapic n) = each (parts.Lapic n)
+wider r shape low high b more each part = each part
 
 ticked_low : (s : TickState) (bound : ℕ) → s.pending ≤ bound → (ticked s).pending ≤ bound + 1
-ticked_low s bound low = elim s.reinjects as (λ t. (if t then record s { pending = s.pending + 1 } else s).pending ≤ bound + 1) [ true ↦ more s.pending low | false ↦ same s.pending low ]
-  where
-    more : (n : ℕ) → n ≤ bound → n + 1 ≤ bound + 1
-    more n low = omega arith
-
-    same : (n : ℕ) → n ≤ bound → n ≤ bound + 1
-    same n low = omega arith
+ticked_low s bound h1 = grind arith
 
 -- ---- each call
 
 resample_below : (shape : Shape) (resample : Option ℕ) → first_of (bad_resample shape resample) ≡ None → IfSome resample (λ c. c < shape.counters)
-resample_below shape None none = tt
-resample_below shape (Some counter) none = less_of shape.counters counter (no_reason (nat_le shape.counters counter) NoCounter [] none).0
+resample_below shape resample h1 = grind arith
 
 module _ (b : Board) (ws : Wishes) (fine : RegistryFine b.shape b.registry) (each : Each b.registry b.shape b.length b) (few : b.shape.counters ≤ 256) where
   abbrev bound : ℕ
@@ -84,10 +60,6 @@ module _ (b : Board) (ws : Wishes) (fine : RegistryFine b.shape b.registry) (eac
   tick_or_hold_keeps after false = λ b ws each. each
 
   in_range : (n : ℕ) (call : Call) → IsTyped call → first_of (range_reasons b.shape call) ≡ None → Whole b.shape bound (run (plan_in_range routing b.shape n call) b ws).board
-  in_range n (Line gsi line high) typed none = plain n (Line gsi line high) refl
-  in_range n (Msi address payload) typed none = plain n (Msi address payload) refl
-  in_range n (Write counter count) typed none = plain n (Write counter count) refl
-  in_range n (Take counter) typed none = plain n (Take counter) refl
   in_range n (Assign trigger gsi resample) typed none =
       let one = no_reason (nat_le b.shape.counters trigger) NoCounter (bad_gsi gsi ∷ bad_resample b.shape resample) none in
       let two = no_reason (nat_le 4096 gsi) NoGsi (bad_resample b.shape resample) one.1 in
@@ -106,14 +78,7 @@ module _ (b : Board) (ws : Wishes) (fine : RegistryFine b.shape b.registry) (eac
   in_range n Tick typed none =
       kept_whole b.shape bound b.registry (tick_or_hold routing b.shape (ticked b.tick) (tick_injects b.tick)) (record b { tick = ticked b.tick }) ws fine
       (tick_or_hold_keeps (ticked b.tick) (tick_injects b.tick)) (each_with b.registry b.shape bound b parts.Tick (ticked b.tick) more (ticked_low b.tick b.length (each parts.Tick)))
-  in_range n (TickMode reinject) typed none = plain n (TickMode reinject) refl
-  in_range n (PortOut port len value) typed none = plain n (PortOut port len value) refl
-  in_range n (PortIn port len) typed none = plain n (PortIn port len) refl
-  in_range n (Store address len value) typed none = plain n (Store address len value) refl
-  in_range n (Load address len) typed none = plain n (Load address len) refl
-  in_range n Ack typed none = plain n Ack refl
-  in_range n Inta typed none = plain n Inta refl
-  in_range n Eoi typed none = plain n Eoi refl
+  in_range n call typed none = plain n call refl
 
   call_whole : (caller : Caller) (call : Call) → IsTyped call → Whole b.shape bound (run (plan_on b caller call) b ws).board
   call_whole caller call typed = unless_whole b.shape bound b ws (first_of (range_reasons b.shape call)) (plan_in_range routing b.shape (number_of caller) call) whole (in_range (number_of caller) call typed)
@@ -126,59 +91,30 @@ published_by true n = n + 1
 published_by false n = n
 
 sound_counted : (o : Board) (t : Bool) → InLimits o.shape → Whole o.shape (o.length + 1) o → length o.lapics ≡ o.shape.cpus → o.length + 1 ≤ o.shape.calls → published_by t o.publications ≤ o.shape.publications → IsSound (with_counts t o)
-sound_counted o true limits w places calls publications =
-    let counts = w.each parts.Counters in
-    record {
-      limits = limits;
-      registry = w.fine.sound;
-      named = w.fine.named;
-      distinct = w.fine.distinct;
-      counts = record { number = counts.number; greatest = counts.greatest; triggers = counts.triggers };
-      pending = w.each parts.Tick;
-      lapics = record { places = places; numbers = λ n. w.each (parts.Lapic n) };
-      entries = (w.each parts.Ioapic).entries;
-      pic_holds = w.each parts.Pic;
-      ioapic_holds = (w.each parts.Ioapic).holds;
-      calls = calls;
-      publications = publications;
-    }
-sound_counted o false limits w places calls publications =
-    let counts = w.each parts.Counters in
-    record {
-      limits = limits;
-      registry = w.fine.sound;
-      named = w.fine.named;
-      distinct = w.fine.distinct;
-      counts = record { number = counts.number; greatest = counts.greatest; triggers = counts.triggers };
-      pending = w.each parts.Tick;
-      lapics = record { places = places; numbers = λ n. w.each (parts.Lapic n) };
-      entries = (w.each parts.Ioapic).entries;
-      pic_holds = w.each parts.Pic;
-      ioapic_holds = (w.each parts.Ioapic).holds;
-      calls = calls;
-      publications = publications;
-    }
+sound_counted o t limits w places calls publications = subst IsSound (counts_are t) (record {
+  limits = limits;
+  registry = w.fine.sound;
+  named = w.fine.named;
+  distinct = w.fine.distinct;
+  counts = record { number = counts.number; greatest = counts.greatest; triggers = counts.triggers };
+  pending = w.each parts.Tick;
+  lapics = record { places = places; numbers = λ n. w.each (parts.Lapic n) };
+  entries = (w.each parts.Ioapic).entries;
+  pic_holds = w.each parts.Pic;
+  ioapic_holds = (w.each parts.Ioapic).holds;
+  calls = calls;
+  publications = publications;
+})
+  where
+    counts : CountsFine o.registry o.shape.counters o.counters
+    counts = w.each parts.Counters
+
+    counts_are : (t : Bool) → record o { length = o.length + 1; publications = published_by t o.publications } ≡ with_counts t o
+    counts_are t = grind arith
 
 -- no limit bars the call
 not_spent : (shape : Shape) (now many : ℕ) (t : Bool) → now ≤ shape.calls → many ≤ shape.publications → (if nat_eq now shape.calls then Some (Calls shape.calls) else if t && nat_eq many shape.publications then Some (Publications shape.publications) else None) ≡ None → (now + 1 ≤ shape.calls) × (published_by t many ≤ shape.publications)
-not_spent shape now many t calls publications none =
-    elim (nat_eq now shape.calls) as (λ q. nat_eq now shape.calls ≡ q → (if q then Some (Calls shape.calls) else if t && nat_eq many shape.publications then Some (Publications shape.publications) else None) ≡ None → (now + 1 ≤ shape.calls) × (published_by t many ≤ shape.publications)) [
-      | true ↦ λ _ e. absurd (some_is_none (Calls shape.calls) e)
-      | false ↦ λ off e. (below now shape.calls calls off, later t e)
-    ] refl none
-  where
-    some_is_none : (s : Spent) → Some s ≡ None → ⊥
-    some_is_none s e = cc
-
-    below : (a c : ℕ) → a ≤ c → nat_eq a c ≡ false → a + 1 ≤ c
-    below a c le ne = grind arith
-
-    later : (t : Bool) → (if t && nat_eq many shape.publications then Some (Publications shape.publications) else None) ≡ None → published_by t many ≤ shape.publications
-    later false e = publications
-    later true e = elim (nat_eq many shape.publications) as (λ q. nat_eq many shape.publications ≡ q → (if q then Some (Publications shape.publications) else None) ≡ None → many + 1 ≤ shape.publications) [
-      | true ↦ λ _ f. absurd (some_is_none (Publications shape.publications) f)
-      | false ↦ λ off _. below many shape.publications publications off
-    ] refl e
+not_spent shape now many t h1 h2 h3 = grind arith
 
 each_of : (b : Board) → IsSound b → Each b.registry b.shape b.length b
 each_of b s parts.Registry = refl

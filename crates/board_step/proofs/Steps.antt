@@ -1,7 +1,7 @@
 -- An entry leads from a board to one board at most.
-use Rattle.std.proofs.Common.{◌≡◌, sym, ap, ◌∙◌}
-use Rattle.irq_base.specs.declared.lists.Entry.{Entry}
-use Rattle.board_model.specs.Board.{Board}
+use Rattle.board_step.proofs.Basics.{◌≡◌, sym, ap, ◌∙◌}
+use Rattle.board_step.proofs.Types.{Entry}
+use Rattle.board_step.proofs.Plans.{Board}
 use Rattle.board_model.proofs.Showing.{shown_decides}
 use Rattle.board_step.specs.Step.{plan_on, counted, Step}
 

@@ -1,64 +1,34 @@
 -- What an allowed call reaches is there: no local APIC past those of the shape.
-use Rattle.std.proofs.Common.{◌≡◌, ℕ, zero, suc, ◌-◌, ◌<◌, ◌≤◌, Bool, true, false, true≢false, not, ◌&&◌, ◌||◌, nat_eq, nat_lt, if◌then◌else◌, List, [], ◌∷◌, ◌++◌, is_some, Some, None, refl, sym, ap, ◌∙◌, arith}
-use Rattle.std.specs.declared.option.Option.{Option}
-use Rattle.irq_bits.specs.Members.{greatest_vector}
-use Rattle.irq_base.specs.Callers.{is_of_processor, is_allowed}
-use Rattle.irq_base.specs.Refusals.{first_of}
-use Rattle.irq_base.specs.declared.call.Call.{Call}
-use Rattle.irq_base.specs.declared.call.Call.TheVariants as calls
-use Rattle.irq_base.specs.declared.call.Caller.{Caller}
-use Rattle.irq_base.specs.declared.call.Caller.TheVariants.{Device, Cpu}
-use Rattle.irq_base.specs.declared.call.Space.{Space}
-use Rattle.irq_base.specs.declared.call.Space.TheVariants as spaces
-use Rattle.irq_base.specs.declared.event.Pin.{Pin}
-use Rattle.irq_base.specs.declared.event.Pin.TheVariants as pins
-use Rattle.irq_base.specs.declared.message.Message.{Message}
-use Rattle.irq_base.specs.declared.message.MsiWord.{MsiWord}
-use Rattle.irq_base.specs.declared.message.Targets.{Targets}
-use Rattle.irq_base.specs.declared.shape.Part.TheVariants.{Pic, Ioapic, Lapic}
-use Rattle.irq_base.specs.declared.shape.Shape.{Shape}
-use Rattle.pic_8259a.specs.Pair.{is_port, has_output, cycle, write_to as pair_write_to, read_from as pair_read_from}
-use Rattle.ioapic_82093aa.specs.declared.ioapic.Raise.{Raise}
-use Rattle.ioapic_82093aa.specs.declared.ioapic.Raise.TheVariants as raises
-use Rattle.ioapic_82093aa.specs.Pins.{raise_of, entry_at, pin_acked, Written, write_to, resend_of}
-use Rattle.lapic.specs.Messages.{is_taken}
+use Rattle.board_step.proofs.Basics.{◌≡◌, ℕ, zero, suc, ◌-◌, ◌<◌, ◌≤◌, Bool, true, false, true≢false, not, ◌&&◌, ◌||◌, nat_eq, nat_lt, if◌then◌else◌, List, [], ◌∷◌, ◌++◌, Some, None, refl, sym, ◌∙◌, arith, Option}
+use Rattle.board_step.proofs.Types.calls
+use Rattle.board_step.proofs.Types.spaces
+use Rattle.board_step.proofs.Types.pins
+use Rattle.board_step.proofs.Types.raises
+use Rattle.board_step.proofs.Types.effects
+use Rattle.board_step.proofs.Types.{greatest_vector, is_allowed, first_of, Call, Caller, Cpu, Space, Pin, Message, MsiWord, Targets, Pic, Ioapic, Lapic, Shape, Raise, Shorthand, TriggerWord}
+use Rattle.board_step.proofs.Chips.{is_port, has_output, cycle, pair_write_to, pair_read_from, raise_of, entry_at, pin_acked, Written, write_to, resend_of, is_taken, LocalApic, store_effect, message_in, tick_injects, ack_injects, rung_by}
+use Rattle.board_step.proofs.Plans.{Board, part_of, pair_of, IoapicPart, ioapic_of, with_ioapic, ◌>>◌, Routing, routing_of_registry}
+use Rattle.board_step.proofs.Calls.{numbers_below, only, reached_by, is_of_one, of_message, of_pin, of_answer, of_other, of_fall, tell_concerned, end_level, acknowledge, board_by, of_marked, of_resend, of_level, of_tick, of_acknowledge, of_acknowledge_each, is_ioapic_address, is_lapic_address, range_reasons, pins_with, pic_pin, cycle_pins, hears_pair, number_of}
+use Rattle.std.proofs.Common.{is_some}
+use Rattle.irq_base.specs.Callers.{is_of_processor}
 use Rattle.lapic.specs.declared.outcome.Effect.{Effect}
-use Rattle.lapic.specs.declared.outcome.Effect.TheVariants as effects
-use Rattle.lapic.specs.declared.outcome.Shorthand.{Shorthand}
 use Rattle.lapic.specs.declared.outcome.Shorthand.TheVariants.{Field, OwnOnly, All, Others}
-use Rattle.lapic.specs.Registers.{LocalApic}
-use Rattle.lapic.specs.Offsets.{store_effect}
-use Rattle.msi_decode.specs.Messages.{message_in}
-use Rattle.tick_reinject.specs.Ticks.{tick_injects, ack_injects}
-use Rattle.ioevent_set.specs.Rows.{rung_by}
-use Rattle.board_model.specs.declared.trigger.TriggerWord.{TriggerWord}
-use Rattle.board_model.specs.Board.{Board, part_of}
-use Rattle.board_model.specs.Chips.{pair_of, IoapicPart, ioapic_of, with_ioapic}
-use Rattle.board_model.specs.Plan.{◌>>◌}
-use Rattle.board_model.specs.Routing.{Routing, routing_of_registry}
-use Rattle.board_raise.specs.Send.{numbers_below, only, reached_by_destination, reached_by}
-use Rattle.board_raise.specs.ReachLaws.{is_of_one, of_message, of_pin, of_answer, of_other, of_raise, of_fall}
-use Rattle.board_ack.specs.Acknowledge.{tell_concerned, end_level, acknowledge}
-use Rattle.board_ack.specs.ReachLaws.{board_by, of_gsi, of_marked, of_resend, of_level, of_tick, of_acknowledge, of_acknowledge_each}
-use Rattle.board_calls.specs.Refusals.{is_ioapic_address, is_lapic_address, range_reasons}
-use Rattle.board_calls.specs.Processors.{pins_with, pic_pin, cycle_pins, hears_pair}
-use Rattle.board_calls.specs.Calls.{number_of}
+use Rattle.board_raise.specs.Send.{reached_by_destination}
+use Rattle.board_raise.specs.ReachLaws.{of_raise}
+use Rattle.board_ack.specs.ReachLaws.{of_gsi}
 use Rattle.board_step.specs.Reach.{of_end, of_counter, of_write, does_inject, of_pair, of_written, of_effect, of_rung, of_ring, of_store, of_load, of_cycle, of_ack, of_call, reach}
 use Rattle.board_step.specs.Publications.{ReachIsThere}
 
 -- ---- tests
 
 or_false : (a b : Bool) → a ≡ false → b ≡ false → (a || b) ≡ false
-or_false true b h k = h
-or_false false b h k = k
+or_false a b h1 h2 = grind arith
 
 and_false : (a b : Bool) → b ≡ false → (a && b) ≡ false
-and_false true b h = h
-and_false false b h = refl
+and_false a b h1 = grind arith
 
 if_false : (t a b : Bool) → a ≡ false → b ≡ false → (if t then a else b) ≡ false
-if_false true a b h k = h
-if_false false a b h k = k
+if_false t a b h1 h2 = grind arith
 
 apart : (m n cpus : ℕ) → nat_lt m cpus ≡ true → cpus ≤ n → nat_eq m n ≡ false
 apart m n cpus low far = grind arith
@@ -75,8 +45,7 @@ module _ (n cpus : ℕ) (far : cpus ≤ n) where
   misses_both (m ∷ ms) ns h k = by_first (nat_eq m n) (misses_both ms ns) h
     where
       by_first : (t : Bool) → (Misses ms → Misses ns → Misses (ms ++ ns)) → (t || is_of_one ms (Lapic n)) ≡ false → (t || is_of_one (ms ++ ns) (Lapic n)) ≡ false
-      by_first true again h = h
-      by_first false again h = again h k
+      by_first t h1 h2 = grind arith
 
   misses_below : (k : ℕ) → k ≤ n → Misses (numbers_below k)
   misses_below zero low = refl
@@ -110,12 +79,10 @@ module _ (n cpus : ℕ) (far : cpus ≤ n) where
   -- ---- signals
 
   far_pic : (pin : Option ℕ) → of_pin pin Pic (Lapic n) ≡ false
-  far_pic None = refl
-  far_pic (Some pin) = refl
+  far_pic pin = grind arith
 
   far_ioapic : (pin : Option ℕ) → of_pin pin Ioapic (Lapic n) ≡ false
-  far_ioapic None = refl
-  far_ioapic (Some pin) = refl
+  far_ioapic pin = grind arith
 
   far_answer : (answer : Raise) → of_answer answer cpus (Lapic n) ≡ false
   far_answer (raises.Send message) = far_message message None
@@ -139,8 +106,7 @@ module _ (routing : Routing) (shape : Shape) (n : ℕ) (far : shape.cpus ≤ n) 
   -- ---- acknowledges
 
   far_marked : (gsi : Option ℕ) → of_marked routing shape gsi (Lapic n) ≡ false
-  far_marked None = refl
-  far_marked (Some gsi) = and_false (routing.marked gsi) false refl
+  far_marked gsi = grind arith
 
   far_resend : (message : Option Message) → of_resend routing shape message (Lapic n) ≡ false
   far_resend None = refl
@@ -225,16 +191,9 @@ module _ (routing : Routing) (shape : Shape) (n : ℕ) (far : shape.cpus ≤ n) 
   far_call b m (calls.Line gsi line false) own = far_fall n shape.cpus far (routing.targets gsi)
   far_call b m (calls.Msi address payload) own = far_message n shape.cpus far (message_in address payload) None
   far_call b m (calls.Write counter count) own = far_write b (routing.trigger counter) count
-  far_call b m (calls.Take counter) own = refl
   far_call b m (calls.Assign trigger gsi resample) own = and_false (does_inject of_acknowledge_each routing shape b trigger resample) _ (far_gsi b gsi)
   far_call b m (calls.Deassign trigger gsi) own = far_release b gsi _
-  far_call b m (calls.Reroute rows) own = refl
-  far_call b m (calls.Attach space address len counter want) own = refl
-  far_call b m (calls.Detach space address len counter want) own = refl
-  far_call b m (calls.Watch counter gsi) own = refl
-  far_call b m (calls.Unwatch counter gsi) own = refl
   far_call b m calls.Tick own = and_false (tick_injects b.tick) _ (far_gsi b shape.tick)
-  far_call b m (calls.TickMode reinject) own = refl
   far_call b m (calls.PortOut port len value) own = if_false (is_port port) _ _ (far_pair b len (pair_write_to (pair_of b.pic) port value).pin) (far_ring b spaces.Port port len value)
   far_call b m (calls.PortIn port len) own = if_false (is_port port) _ _ (far_pair b len (pair_read_from (pair_of b.pic) port).pin) refl
   far_call b m (calls.Store address len value) own = far_store m (own refl) b address len value
@@ -242,20 +201,18 @@ module _ (routing : Routing) (shape : Shape) (n : ℕ) (far : shape.cpus ≤ n) 
   far_call b m calls.Ack own = far_ack m (own refl) b (part_of b (Lapic m))
   far_call b m calls.Inta own = far_cycle b
   far_call b m calls.Eoi own = or_false (nat_eq m n) _ (own refl) (far_end b (greatest_vector (part_of b (Lapic m)).isr))
+  far_call b m _ own = refl
 
 -- ---- callers
 
 both_true : (a b : Bool) → (a && b) ≡ true → (a ≡ true) × (b ≡ true)
-both_true true b h = (refl, h)
-both_true false b h = cc
+both_true a b h1 = grind arith
 
 processor_there : (m : ℕ) (call : Call) (shape : Shape) → is_allowed (Cpu m) call shape ≡ true → nat_lt m shape.cpus ≡ true
-processor_there m calls.Inta shape h = (both_true (nat_lt m shape.cpus) (nat_eq m 0) h).0
-processor_there m call shape h = h
+processor_there m call shape h1 = grind arith
 
 own_is_there : (caller : Caller) (call : Call) (shape : Shape) (n : ℕ) → shape.cpus ≤ n → is_allowed caller call shape ≡ true → is_of_processor call ≡ true → nat_eq (number_of caller) n ≡ false
-own_is_there (Device d) call shape n far allowed is = absurd (true≢false (sym (both_true (nat_lt d 64) (not (is_of_processor call)) allowed).1 ∙ ap not is))
-own_is_there (Cpu m) call shape n far allowed is = apart m n shape.cpus (processor_there m call shape allowed) far
+own_is_there caller call shape n h1 h2 h3 = grind arith
 
 pub reach_is_there : ReachIsThere
 reach_is_there b caller call n allowed within = by_test (nat_lt n b.shape.cpus) refl

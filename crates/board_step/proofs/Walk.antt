@@ -1,13 +1,9 @@
 -- Properties of plans that hold of a plan where they hold of its parts.
-use Rattle.std.proofs.Common.{◌≡◌, ℕ, Bool, true, false, if◌then◌else◌, List, refl, sym, subst}
-use Rattle.irq_base.specs.declared.shape.Part.{Part}
-use Rattle.board_model.specs.Board.{ValueOf, Board, part_of, with_part}
-use Rattle.board_model.specs.Plan.{Plan, done, look, put, change, ◌>>=◌, ◌>>◌}
-use Rattle.board_model.specs.Run.{Wishes, Outcome, run, then_run}
+use Rattle.board_step.proofs.Basics.{◌≡◌, ℕ, Bool, true, false, if◌then◌else◌, List, refl, sym, subst}
+use Rattle.board_step.proofs.Types.{Part}
+use Rattle.board_step.proofs.Plans.{ValueOf, Board, part_of, with_part, Plan, done, look, put, change, ◌>>=◌, ◌>>◌, Wishes, Outcome, run, then_run}
+use Rattle.board_step.proofs.Calls.{Processor, see_each, processors_on}
 use Rattle.board_model.proofs.Sequence.{run-bind}
-use Rattle.board_raise.specs.Named.{Processor}
-use Rattle.board_raise.specs.Send.{see_each}
-use Rattle.board_raise.specs.Laws.{processors_on}
 use Rattle.board_raise.proofs.SendExactly.{after_seen}
 
 -- such a property, of a plan on a board and under wishes; the boards on which it is asked, and what may be written there

@@ -1,39 +1,22 @@
 -- Acknowledges: what holds of their parts holds of them.
-use Rattle.std.proofs.Common.{ℕ, Bool, true, false, not, nat_eq, if◌then◌else◌, List, [], ◌∷◌, Some, None}
-use Rattle.std.specs.declared.option.Option.{Option}
-use Rattle.irq_base.specs.declared.event.Event.TheVariants.{Acked}
-use Rattle.irq_base.specs.declared.event.Pin.{Pin}
-use Rattle.irq_base.specs.declared.event.Pin.TheVariants as pins
-use Rattle.irq_base.specs.declared.message.Message.{Message}
-use Rattle.irq_base.specs.declared.message.Source.TheVariants.{Resample, Tick as TickSource}
-use Rattle.irq_base.specs.declared.shape.Part.TheVariants as parts
-use Rattle.irq_base.specs.declared.shape.Shape.{Shape}
-use Rattle.irq_base.specs.declared.status.Status.{Status}
-use Rattle.ioapic_82093aa.specs.Pins.{entry_at, pin_acked, resend_of}
-use Rattle.irqfd_set.specs.Rows.{has_resampler}
-use Rattle.resampler.specs.Resample.{resampled, resample_events}
-use Rattle.tick_reinject.specs.Ticks.{ack_injects, tick_acked, tick_injected}
-use Rattle.board_model.specs.Board.{Board, with_part}
-use Rattle.board_model.specs.Chips.{ioapic_of, with_ioapic}
-use Rattle.board_model.specs.Registry.{RegistryPart}
-use Rattle.board_model.specs.Routing.{Routing}
-use Rattle.board_model.specs.Statuses.{TargetAnswer}
-use Rattle.board_model.specs.Plan.{About, injected, resent, done, say, change, ◌>>◌}
-use Rattle.board_raise.specs.Send.{send}
-use Rattle.board_raise.specs.Signal.{is_accepted, accept_pin, let_go, inject}
-use Rattle.board_ack.specs.Ticks.{inject_tick, inject_next, acknowledge_tick}
-use Rattle.board_ack.specs.Acknowledge.{signal_each, resample, notify, resample_and_notify, tell_concerned, resend, clear_and_resend, end_level, end_tick, acknowledge, acknowledge_each}
+use Rattle.board_step.proofs.Basics.{ℕ, Bool, true, false, not, nat_eq, if◌then◌else◌, List, [], ◌∷◌, map, Some, None, Option}
+use Rattle.board_step.proofs.Types.pins
+use Rattle.board_step.proofs.Types.parts
+use Rattle.board_step.proofs.Types.{signalled_all, Event, Acked, Resampled, Watched, Pin, Message, Resample, TickSource, Shape, Status}
+use Rattle.board_step.proofs.Chips.{entry_at, pin_acked, resend_of, has_resampler, resampled, resample_events, watched, watch_events, ack_injects, tick_acked, tick_injected}
+use Rattle.board_step.proofs.Plans.{Board, with_part, ioapic_of, with_ioapic, RegistryPart, Routing, TargetAnswer, About, injected, resent, done, say, change, ◌>>◌}
+use Rattle.board_step.proofs.Calls.{send, is_accepted, accept_pin, let_go, inject, inject_tick, inject_next, acknowledge_tick, say_each, signal_each, resample, notify, resample_and_notify, tell_concerned, resend, clear_and_resend, end_level, end_tick, acknowledge, acknowledge_each}
 use Rattle.board_step.proofs.Walk.{Walk, Holds, Seen, ended, bound, after, either, either_at, looked, written, changed}
 use Rattle.board_step.proofs.WalkSignals.{Shows, Signals, MayRaise, accept_pin_holds, let_go_holds, inject_holds}
 
 module _ (w : Walk) where
-  pub resend_holds : (cpus : ℕ) → Signals w cpus → (pin : ℕ) → Shows w (resent pin) → (message : Option Message) → Holds w (resend cpus pin message)
+  pub resend_holds : (cpus : ℕ) → Signals w → (pin : ℕ) → Shows w cpus (resent pin) → (message : Option Message) → Holds w (resend cpus pin message)
   resend_holds cpus s pin there None = ended w tt
-  resend_holds cpus s pin there (Some message) = bound w (λ answer. accept_pin pin (is_accepted message answer)) (send cpus message None (resent pin)) (s.sends message None (resent pin) there) (λ answer. accept_pin_holds w cpus s pin (is_accepted message answer))
+  resend_holds cpus s pin there (Some message) = bound w (λ answer. accept_pin pin (is_accepted message answer)) (send cpus message None (resent pin)) (there.sends message None) (λ answer. accept_pin_holds w cpus s pin (is_accepted message answer))
 
   -- a tick is injected
-  pub inject_tick_holds : (routing : Routing) (shape : Shape) → Signals w shape.cpus → MayRaise w (routing.targets shape.tick) TickSource → ((status : Status) (b : Board) → w.Fit b → w.May b parts.Tick (tick_injected b.tick status))
-      → (about : Option TargetAnswer → About) → ((pic : Option TargetAnswer) → Shows w (about pic)) → Holds w (inject_tick routing shape about)
+  pub inject_tick_holds : (routing : Routing) (shape : Shape) → Signals w → MayRaise w (routing.targets shape.tick) TickSource → ((status : Status) (b : Board) → w.Fit b → w.May b parts.Tick (tick_injected b.tick status))
+      → (about : Option TargetAnswer → About) → ((pic : Option TargetAnswer) → Shows w shape.cpus (about pic)) → Holds w (inject_tick routing shape about)
   inject_tick_holds routing shape s may frees about there =
       bound w (λ status. change parts.Tick (λ tick. tick_injected tick status)) (inject shape.cpus (routing.targets shape.tick) TickSource about) (inject_holds w shape.cpus s (routing.targets shape.tick) TickSource may about there)
       (λ status. changed w parts.Tick (λ tick. tick_injected tick status) (frees status))
@@ -45,7 +28,20 @@ module _ (w : Walk) where
     pub resamples : (registry : RegistryPart) (gsi : ℕ) → Seen w parts.Registry registry → Holds w (signal_each (resampled registry.irqfds gsi) (resample_events registry.irqfds gsi))
     pub notifies : (registry : RegistryPart) (gsi : ℕ) → Seen w parts.Registry registry → Holds w (notify gsi registry)
 
-  module _ (routing : Routing) (cpus : ℕ) (s : Signals w cpus) (a : Tells) where
+  says_each : (event : ℕ → Event) → ((counter : ℕ) → Holds w (say (event counter))) → (counters : List ℕ) → Holds w (say_each (map event counters))
+  says_each event said [] = ended w tt
+  says_each event said (counter ∷ counters) = after w (say (event counter)) (say_each (map event counters)) (said counter) (says_each event said counters)
+
+  -- where counters may be signalled, and the events may be told
+  pub tells_by : ((counter : ℕ) → Holds w (say (Resampled counter))) → ((counter : ℕ) → Holds w (say (Watched counter)))
+      → ((registry : RegistryPart) (gsi : ℕ) → Seen w parts.Registry registry → (b : Board) → w.Fit b → w.May b parts.Counters (signalled_all b.counters (resampled registry.irqfds gsi)))
+      → ((registry : RegistryPart) (gsi : ℕ) → Seen w parts.Registry registry → (b : Board) → w.Fit b → w.May b parts.Counters (signalled_all b.counters (watched registry.watches gsi))) → Tells
+  tells_by resampled_said watched_said resamples notifies = record {
+    resamples = λ registry gsi seen. written w parts.Counters _ (λ _. say_each (resample_events registry.irqfds gsi)) (resamples registry gsi seen) (λ _. says_each Resampled resampled_said (resampled registry.irqfds gsi));
+    notifies = λ registry gsi seen. written w parts.Counters _ (λ _. say_each (watch_events registry.watches gsi)) (notifies registry gsi seen) (λ _. says_each Watched watched_said (watched registry.watches gsi));
+  }
+
+  module _ (routing : Routing) (cpus : ℕ) (s : Signals w) (a : Tells) where
     resample_holds : (gsi : ℕ) (registry : RegistryPart) → Seen w parts.Registry registry → Holds w (resample (routing.targets gsi) gsi registry)
     resample_holds gsi registry seen =
         let signals = signal_each (resampled registry.irqfds gsi) (resample_events registry.irqfds gsi) in
@@ -65,7 +61,7 @@ module _ (w : Walk) where
 
   -- ---- steps 4 and 5
 
-  pub end_level_holds : (cpus : ℕ) → Signals w cpus → ((pin : ℕ) → Shows w (resent pin)) → ((pin : ℕ) (b : Board) → w.Fit b → w.May b parts.Ioapic (with_ioapic b.ioapic (pin_acked (ioapic_of b.ioapic) pin))) → (pin : Pin) → Holds w (end_level cpus pin)
+  pub end_level_holds : (cpus : ℕ) → Signals w → ((pin : ℕ) → Shows w cpus (resent pin)) → ((pin : ℕ) (b : Board) → w.Fit b → w.May b parts.Ioapic (with_ioapic b.ioapic (pin_acked (ioapic_of b.ioapic) pin))) → (pin : Pin) → Holds w (end_level cpus pin)
   end_level_holds cpus s resends clears (pins.Pic pin) = ended w tt
   end_level_holds cpus s resends clears (pins.Ioapic pin) = λ b ws fit. w.looks parts.Ioapic (λ part. if (entry_at (ioapic_of part) pin).level then clear_and_resend cpus pin part else done tt) b ws
       (either_at w (entry_at (ioapic_of b.ioapic) pin).level (clear_and_resend cpus pin b.ioapic) (done tt) b ws
@@ -92,7 +88,7 @@ module _ (w : Walk) where
 
     -- ---- all five
 
-    module _ (acked : (pin : Pin) → Holds w (say (Acked pin (routing.gsi_of pin)))) (s : Signals w shape.cpus) (tells : Tells) (a : Ends) where
+    module _ (acked : (pin : Pin) → Holds w (say (Acked pin (routing.gsi_of pin)))) (s : Signals w) (tells : Tells) (a : Ends) where
       acknowledge_holds : (pin : Pin) → Holds w (acknowledge routing shape pin)
       acknowledge_holds pin =
           let gsi = routing.gsi_of pin in

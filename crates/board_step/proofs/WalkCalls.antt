@@ -1,62 +1,21 @@
 -- Calls: what holds of their parts holds of them.
-use Rattle.std.proofs.Common.{◌≡◌, ℕ, ◌-◌, Bool, true, false, nat_eq, nat_lt, if◌then◌else◌, List, ◌++◌, ◌∷◌, [], slice_index, Some, None, refl}
-use Rattle.std.specs.declared.option.Option.{Option}
-use Rattle.irq_bits.specs.Members.{greatest_vector}
-use Rattle.irq_base.specs.Refusals.{Reason, first_of}
-use Rattle.irq_base.specs.declared.call.Call.{Call}
-use Rattle.irq_base.specs.declared.call.Call.TheVariants as calls
-use Rattle.irq_base.specs.declared.call.Space.{Space}
-use Rattle.irq_base.specs.declared.call.Space.TheVariants as spaces
-use Rattle.irq_base.specs.declared.event.Event.TheVariants.{Rang}
-use Rattle.irq_base.specs.declared.event.Pin.{Pin}
-use Rattle.irq_base.specs.declared.event.Pin.TheVariants as pins
-use Rattle.irq_base.specs.declared.call.Row.{Row}
-use Rattle.irq_base.specs.declared.message.Source.TheVariants.{Line, Resample}
-use Rattle.irq_base.specs.declared.message.Message.{Message}
-use Rattle.irq_base.specs.declared.refusal.Refusal.{Refusal}
-use Rattle.lapic.specs.declared.outcome.Shorthand.{Shorthand}
-use Rattle.irq_base.specs.declared.reply.Reply.{Reply}
-use Rattle.irq_base.specs.declared.reply.Reply.TheVariants.{Signal, Done, Count, Empty, Removed, Value, Exit, Vector, Extint, Nmi, Ended, Nothing, Held, Refused}
-use Rattle.irq_base.specs.declared.shape.Part.TheVariants.{Registry, Counters, Tick, Pic, Ioapic, Lapic}
-use Rattle.irq_base.specs.declared.shape.Shape.{Shape}
-use Rattle.irqfd_set.specs.declared.irqfds.Irqfd.{Irqfd}
-use Rattle.irqfd_set.specs.Rows as irqfds
-use Rattle.ioevent_set.specs.declared.row.IoRow.{IoRow}
-use Rattle.pic_8259a.specs.declared.pair.Pair.{Pair}
-use Rattle.pic_8259a.specs.Pair.{is_port, write_to as pair_write_to, read_from as pair_read_from, has_output, cycle}
-use Rattle.ioapic_82093aa.specs.Pins.{write_to, read_from, resend_of}
-use Rattle.lapic.specs.declared.outcome.Effect.{Effect as LapicEffect}
-use Rattle.lapic.specs.declared.outcome.Effect.TheVariants as effects
-use Rattle.lapic.specs.Offsets.{store_to, store_effect, load_of}
-use Rattle.lapic.specs.Priority.{giveable_of, given, without_service}
-use Rattle.msi_decode.specs.Messages.{message_in}
-use Rattle.event_counter.specs.Counters.{what_is_read, taken, written as count_of}
-use Rattle.irq_base.specs.Counts.{signalled}
-use Rattle.ioevent_set.specs.Rows as ioevents
-use Rattle.ioevent_set.specs.Rows.{rung_by}
-use Rattle.ack_notifiers.specs.Rows as watches
-use Rattle.tick_reinject.specs.declared.state.TickState.{TickState}
-use Rattle.tick_reinject.specs.Ticks.{in_mode}
-use Rattle.route_table.specs.Rows.{table_of}
-use Rattle.board_model.specs.declared.trigger.TriggerWord.{TriggerWord}
-use Rattle.board_model.specs.Board.{Board, part_of, with_part}
-use Rattle.board_model.specs.Registry.{RegistryPart}
-use Rattle.board_model.specs.Routing.{Routing}
-use Rattle.board_model.specs.Chips.{PicPart, IoapicPart, pair_of, ioapic_of, with_pair, with_ioapic}
-use Rattle.board_model.specs.Statuses.{TargetAnswer}
-use Rattle.board_model.specs.Plan.{injected, ipi, the_reply, Plan, done, put, say, change, reply, ◌>>◌}
-use Rattle.board_model.specs.Run.{Wishes}
-use Rattle.source_levels.specs.Holds.{Holds as PinHolds}
-use Rattle.board_raise.specs.Send.{send}
-use Rattle.board_raise.specs.Signal.{raise, lowered_status}
-use Rattle.board_ack.specs.Ticks.{inject_tick}
-use Rattle.board_ack.specs.Acknowledge.{resend, acknowledge_each}
-use Rattle.board_calls.specs.Refusals.{write_reasons, assign_reasons, attach_reasons, detach_reasons, watch_reasons, unwatch_reasons, is_ioapic_address, is_lapic_address}
-use Rattle.board_calls.specs.Registrations.{count_written, unless_refused, line_set, message_sent, source_of, trigger_written, write, read_reply, take, inject_count, assign, was_last_resampler, release, deassigned, deassign, kept_holds, reroute, attach, detach, watch, unwatch}
-use Rattle.board_calls.specs.Ticks.{tick_or_hold, tick_mode}
-use Rattle.board_calls.specs.Processors.{pins_with, end_vector, ended_reply, end_of_interrupt, pic_pin, cycle_pins, cycle_made, inta, given_reply, give, hears_pair, give_of_pair, take_nmi, next_interrupt}
-use Rattle.board_calls.specs.Accesses.{pair_written, pair_write, pair_gave, pair_read, resend_written, ioapic_written, ioapic_store, ioapic_load, store_effects, lapic_stored, lapic_store, lapic_load, ring_counter, rung, ring, port_out, port_in, store, load}
-use Rattle.board_calls.specs.Calls.{plan_in_range}
+use Rattle.board_step.proofs.Basics.{◌≡◌, ℕ, ◌-◌, Bool, true, false, nat_eq, nat_lt, if◌then◌else◌, List, ◌++◌, ◌∷◌, [], Some, None, refl, Option}
+use Rattle.board_step.proofs.Types.calls
+use Rattle.board_step.proofs.Types.spaces
+use Rattle.board_step.proofs.Types.pins
+use Rattle.board_step.proofs.Types.effects
+use Rattle.board_step.proofs.Types.{greatest_vector, Reason, first_of, Call, Space, Rang, Pin, Row, Line, Resample, Message, Refusal, Shorthand, Reply, Signal, Done, Count, Empty, Removed, Value, Exit, Vector, Extint, Nmi, Ended, Nothing, Held, Refused, Registry, Counters, Tick, Pic, Ioapic, Lapic, Shape, Irqfd, IoRow, Pair, LapicEffect, signalled, TickState, TriggerWord}
+use Rattle.board_step.proofs.Chips.irqfds
+use Rattle.board_step.proofs.Chips.ioevents
+use Rattle.board_step.proofs.Chips.watches
+use Rattle.board_step.proofs.Chips.{is_port, pair_write_to, pair_read_from, has_output, cycle, write_to, resend_of, store_to, store_effect, giveable_of, given, without_service, message_in, what_is_read, taken, count_of, rung_by, in_mode, table_of, PinHolds}
+use Rattle.board_step.proofs.Plans.{Board, part_of, with_part, RegistryPart, Routing, PicPart, IoapicPart, pair_of, ioapic_of, with_pair, with_ioapic, TargetAnswer, injected, ipi, the_reply, Plan, done, put, say, change, reply, ◌>>◌, Wishes}
+use Rattle.board_step.proofs.Calls.{send, raise, lowered_status, inject_tick, resend, acknowledge_each, write_reasons, assign_reasons, attach_reasons, detach_reasons, watch_reasons, unwatch_reasons, is_ioapic_address, is_lapic_address, unless_refused, line_set, message_sent, source_of, trigger_written, write, read_reply, take, inject_count, assign, was_last_resampler, release, deassigned, deassign, kept_holds, reroute, attach, detach, watch, unwatch, tick_or_hold, pins_with, end_vector, ended_reply, end_of_interrupt, pic_pin, cycle_pins, cycle_made, inta, given_reply, give, hears_pair, give_of_pair, take_nmi, next_interrupt, pair_written, pair_write, pair_gave, pair_read, resend_written, ioapic_written, ioapic_store, ioapic_load, store_effects, lapic_stored, lapic_store, lapic_load, ring_counter, rung, ring, port_out, port_in, store, load, plan_in_range}
+use Rattle.std.proofs.Common.{slice_index, is_some}
+use Rattle.ioapic_82093aa.specs.Pins.{read_from}
+use Rattle.lapic.specs.Offsets.{load_of}
+use Rattle.board_calls.specs.Registrations.{count_written}
+use Rattle.board_calls.specs.Ticks.{tick_mode}
 use Rattle.board_step.proofs.Walk.{Walk, Holds, ended, bound, after, either, either_at, looked, written, changed}
 use Rattle.board_step.proofs.WalkSignals.{Shows, Signals, MayRaise, let_go_holds, lower_holds, raise_holds, inject_only}
 
@@ -115,7 +74,7 @@ module _ (w : Walk) (routing : Routing) (shape : Shape) where
         of_vector None = a.replies Nothing refl
         of_vector (Some vector) = a.replies (Ended vector) refl
 
-    cycle_at : (answer : Reply) → is_signal answer ≡ false → (b : Board) (ws : Wishes) → w.Fit b → w.At (cycle_made routing shape b.pic (cycle (pair_of b.pic)) answer) b ws
+    pub cycle_at : (answer : Reply) → is_signal answer ≡ false → (b : Board) (ws : Wishes) → w.Fit b → w.At (cycle_made routing shape b.pic (cycle (pair_of b.pic)) answer) b ws
     cycle_at answer plain b ws fit =
         let made = cycle (pair_of b.pic) in
         w.puts Pic (with_pair b.pic made.after) (acknowledge_each routing shape (cycle_pins made.pins) >> reply answer) b ws fit (a.pairs made.after b fit) (acked (cycle_pins made.pins) answer plain (with_part b Pic (with_pair b.pic made.after)) ws)
@@ -232,9 +191,9 @@ module _ (w : Walk) (routing : Routing) (shape : Shape) where
     pub rang : (counter : ℕ) → Holds w (say (Rang counter))
     pub signals : (counter : ℕ) → routing.trigger counter ≡ None → (b : Board) → w.Fit b → w.May b Counters (signalled b.counters counter)
     pub fires : (counter : ℕ) (trigger : TriggerWord) → routing.trigger counter ≡ Some trigger → MayRaise w (routing.targets trigger.gsi) (source_of trigger.resample)
-    pub injects : (gsi : ℕ) (pic : Option TargetAnswer) → Shows w (injected gsi pic)
+    pub injects : (gsi : ℕ) (pic : Option TargetAnswer) → Shows w shape.cpus (injected gsi pic)
 
-  module _ (signals : Signals w shape.cpus) (r : Rings) where
+  module _ (signals : Signals w) (r : Rings) where
     ring_counter_holds : (counter : ℕ) (trigger : Option TriggerWord) → routing.trigger counter ≡ trigger → Holds w (ring_counter routing shape counter trigger)
     ring_counter_holds counter None is = changed w Counters (λ counts. signalled counts counter) (r.signals counter is)
     ring_counter_holds counter (Some trigger) is = inject_only w shape.cpus signals (routing.targets trigger.gsi) (source_of trigger.resample) (r.fires counter trigger is) (λ pic. injected trigger.gsi pic) (r.injects trigger.gsi)
@@ -244,6 +203,11 @@ module _ (w : Walk) (routing : Routing) (shape : Shape) where
     rung_holds replies (Some counter) =
         let m = ring_counter routing shape counter (routing.trigger counter) in
         after w (say (Rang counter)) (m >> reply Done) (r.rang counter) (after w m (reply Done) (ring_counter_holds counter (routing.trigger counter) refl) (replies Done refl))
+
+  -- a count that stands at a trigger
+  pub inject_count_holds : Signals w → (gsi : ℕ) (resample : Option ℕ) → MayRaise w (routing.targets gsi) (source_of (is_some resample)) → ((pic : Option TargetAnswer) → Shows w shape.cpus (injected gsi pic)) → (injects : Bool) → Holds w (inject_count routing shape gsi resample injects)
+  inject_count_holds signals gsi resample may there false = ended w tt
+  inject_count_holds signals gsi resample may there true = inject_only w shape.cpus signals (routing.targets gsi) (source_of (is_some resample)) may (λ pic. injected gsi pic) there
 
   -- ---- a call that may be refused
 
@@ -268,10 +232,10 @@ module _ (w : Walk) (routing : Routing) (shape : Shape) where
 
   -- what they need
   pub record Replied : Type 0 where
-    pub signals : Signals w shape.cpus
+    pub signals : Signals w
     pub plain : (r : Reply) → is_signal r ≡ false → Holds w (reply r)
     pub lowers : (gsi : ℕ) → Holds w (reply (Signal (lowered_status (routing.targets gsi).pic (routing.targets gsi).ioapic (routing.targets gsi).msi)))
-    pub shows : (pic : Option TargetAnswer) → Shows w (the_reply pic)
+    pub shows : (pic : Option TargetAnswer) → Shows w shape.cpus (the_reply pic)
     pub lines : (gsi line : ℕ) → MayRaise w (routing.targets gsi) (Line line)
     pub fires : (counter : ℕ) (trigger : TriggerWord) → routing.trigger counter ≡ Some trigger → MayRaise w (routing.targets trigger.gsi) (source_of trigger.resample)
     pub counts : (counter n : ℕ) → routing.trigger counter ≡ None → (b : Board) → w.Fit b → first_of (write_reasons b.counters counter n) ≡ None → w.May b Counters (count_of b.counters counter n)
@@ -283,7 +247,7 @@ module _ (w : Walk) (routing : Routing) (shape : Shape) where
     line_holds gsi line false = lower_holds w shape.cpus a.signals (routing.targets gsi) (Line line) (a.lowers gsi)
 
     pub message_holds : (address payload : ℕ) → Holds w (message_sent shape address payload)
-    message_holds address payload = bound w (λ answer. done tt) (send shape.cpus (message_in address payload) None (the_reply None)) (a.signals.sends (message_in address payload) None (the_reply None) (a.shows None)) (λ _. ended w tt)
+    message_holds address payload = bound w (λ answer. done tt) (send shape.cpus (message_in address payload) None (the_reply None)) ((a.shows None).sends (message_in address payload) None) (λ _. ended w tt)
 
     pub write_holds : (counter n : ℕ) (trigger : Option TriggerWord) → routing.trigger counter ≡ trigger → Holds w (write routing shape trigger counter n)
     write_holds counter n None is = count_holds a.plain counter n (a.counts counter n is)
@@ -335,11 +299,11 @@ module _ (w : Walk) (routing : Routing) (shape : Shape) where
           w.puts Counters (taken counts trigger) last (with_part b Registry v) ws fits (takes counts (with_part b Registry v) fits)
           (after w (inject_count routing shape gsi resample injects) (reply Done) (counts_inject injects) (plain Done refl) (with_part (with_part b Registry v) Counters (taken counts trigger)) ws)))))
 
-      release_holds : Signals w shape.cpus → (gsi : ℕ) (last : Bool) → Holds w (release routing gsi last)
+      release_holds : Signals w → (gsi : ℕ) (last : Bool) → Holds w (release routing gsi last)
       release_holds signals gsi true = let_go_holds w shape.cpus signals (routing.targets gsi) Resample
       release_holds signals gsi false = ended w tt
 
-      pub deassign_holds : Signals w shape.cpus → (trigger gsi : ℕ) → Holds w (deassign routing trigger gsi)
+      pub deassign_holds : Signals w → (trigger gsi : ℕ) → Holds w (deassign routing trigger gsi)
       deassign_holds signals trigger gsi = looked w Registry _ (λ r _. of_row r (irqfds.named_row r.irqfds trigger gsi))
         where
           of_row : (r : RegistryPart) (row : Option Irqfd) → Holds w (deassigned routing r trigger gsi row)
@@ -389,11 +353,4 @@ module _ (w : Walk) (routing : Routing) (shape : Shape) where
     plain_holds n calls.Ack is = next_holds a.accesses a.nmis a.gives n
     plain_holds n calls.Inta is = inta_holds a.accesses
     plain_holds n calls.Eoi is = eoi_holds a.accesses n
-    plain_holds n (calls.Assign trigger gsi resample) is = cc
-    plain_holds n (calls.Deassign trigger gsi) is = cc
-    plain_holds n (calls.Reroute rows) is = cc
-    plain_holds n (calls.Attach space address len counter want) is = cc
-    plain_holds n (calls.Detach space address len counter want) is = cc
-    plain_holds n (calls.Watch counter gsi) is = cc
-    plain_holds n (calls.Unwatch counter gsi) is = cc
-    plain_holds n calls.Tick is = cc
+    plain_holds n _ is = cc

@@ -1,25 +1,12 @@
 -- Properties to which it does not matter what is written to a chip or a counter.
-use Rattle.std.proofs.Common.{◌≡◌, ℕ, false, List}
-use Rattle.std.specs.declared.option.Option.{Option}
-use Rattle.irq_base.specs.declared.event.Event.TheVariants.{Rang}
-use Rattle.irq_base.specs.declared.event.Pin.{Pin}
-use Rattle.irq_base.specs.declared.message.Source.{Source}
-use Rattle.irq_base.specs.declared.message.Targets.{Targets}
-use Rattle.irq_base.specs.declared.reply.Reply.{Reply}
-use Rattle.irq_base.specs.declared.reply.Reply.TheVariants.{Signal}
-use Rattle.irq_base.specs.declared.shape.Part.TheVariants.{Counters, Pic, Ioapic, Lapic}
-use Rattle.irq_base.specs.declared.shape.Shape.{Shape}
-use Rattle.lapic.specs.Registers.{LocalApic}
-use Rattle.board_model.specs.Board.{Board}
-use Rattle.board_model.specs.Chips.{PicPart, IoapicPart}
-use Rattle.board_model.specs.Routing.{Routing}
-use Rattle.board_model.specs.Statuses.{TargetAnswer}
-use Rattle.board_model.specs.Plan.{injected, resent, ipi, the_reply, reply, say}
-use Rattle.board_model.specs.Run.{Log, silence, both}
-use Rattle.board_raise.specs.Signal.{lowered_status}
-use Rattle.board_ack.specs.Acknowledge.{acknowledge_each}
+use Rattle.board_step.proofs.Basics.{◌≡◌, ℕ, false, List, Option}
+use Rattle.board_step.proofs.Types.{Rang, Pin, Source, Targets, Reply, Signal, Counters, Pic, Ioapic, Lapic, Shape}
+use Rattle.board_step.proofs.Chips.{LocalApic}
+use Rattle.board_step.proofs.Plans.{Board, PicPart, IoapicPart, Routing, TargetAnswer, About, injected, resent, ipi, the_reply, reply, say, Log}
+use Rattle.board_step.proofs.Calls.{show, lowered_status, acknowledge_each}
+use Rattle.board_model.specs.Run.{silence, both}
 use Rattle.board_step.proofs.Walk.{Walk, Holds, of_relation}
-use Rattle.board_step.proofs.WalkSignals.{Shows, Signals, MayRaise, send_holds}
+use Rattle.board_step.proofs.WalkSignals.{Shows, Signals, Chooses, MayRaise, shows_by}
 use Rattle.board_step.proofs.WalkAcks.{resend_holds}
 use Rattle.board_step.proofs.WalkCalls.{is_signal, Accesses, Rings, Replied}
 
@@ -44,36 +31,34 @@ module _ (w : Walk) where
     pub lapic : (n : ℕ) (v : LocalApic) (b : Board) → w.Fit b → w.May b (Lapic n) v
 
   module _ (o : Open) where
-    pub open_signals : (cpus : ℕ) → Signals w cpus
-    open_signals cpus = record {
-      sends = λ message from about there. send_holds w (λ n apic m seen b fit. o.lapic n _ b fit) about there message from cpus;
-      accepts = λ pin b fit. o.ioapic _ b fit;
-      pic_leaves = λ pin source b fit. o.pic _ b fit;
-      ioapic_leaves = λ pin source b fit. o.ioapic _ b fit;
-    }
+    pub open_signals : Signals w
+    open_signals = record { accepts = λ pin b fit. o.ioapic _ b fit; pic_leaves = λ pin source b fit. o.pic _ b fit; ioapic_leaves = λ pin source b fit. o.ioapic _ b fit }
+
+    pub open_shows : {cpus : ℕ} (about : About) → ((other : Option TargetAnswer) → Holds w (show about other)) → Chooses w about → Shows w cpus about
+    open_shows = shows_by w (λ n apic message seen b fit. o.lapic n _ b fit)
 
     pub open_raise : (targets : Targets) (source : Source) → MayRaise w targets source
     open_raise targets source = record { pic = λ pin is b fit. o.pic _ b fit; ioapic = λ pin is b fit. o.ioapic _ b fit }
 
     module _ (routing : Routing) (shape : Shape) (replies : (r : Reply) → is_signal r ≡ false → Holds w (reply r)) where
-      pub open_accesses : ((list : List Pin) → Holds w (acknowledge_each routing shape list)) → ((pin : ℕ) → Shows w (resent pin)) → Shows w ipi → Accesses w routing shape
+      pub open_accesses : ((list : List Pin) → Holds w (acknowledge_each routing shape list)) → ((pin : ℕ) → Shows w shape.cpus (resent pin)) → Shows w shape.cpus ipi → Accesses w routing shape
       open_accesses acks resends ipis = record {
         acks = acks;
         replies = replies;
-        resends = λ pin message. resend_holds w shape.cpus (open_signals shape.cpus) pin (resends pin) message;
-        ipis = λ message from. (open_signals shape.cpus).sends message from ipi ipis;
+        resends = λ pin message. resend_holds w shape.cpus open_signals pin (resends pin) message;
+        ipis = ipis.sends;
         pairs = λ pair b fit. o.pic _ b fit;
         stores = λ offset value b fit. o.ioapic _ b fit;
         registers = λ n offset value b fit. o.lapic n _ b fit;
         services = λ n b fit. o.lapic n _ b fit;
       }
 
-      pub open_rings : ((counter : ℕ) → Holds w (say (Rang counter))) → ((gsi : ℕ) (pic : Option TargetAnswer) → Shows w (injected gsi pic)) → Rings w routing shape
+      pub open_rings : ((counter : ℕ) → Holds w (say (Rang counter))) → ((gsi : ℕ) (pic : Option TargetAnswer) → Shows w shape.cpus (injected gsi pic)) → Rings w routing shape
       open_rings rang injects = record { rang = rang; signals = λ counter none b fit. o.counters _ b fit; fires = λ counter trigger is. open_raise _ _; injects = injects }
 
-      pub open_replied : ((gsi : ℕ) → Holds w (reply (Signal (lowered_status (routing.targets gsi).pic (routing.targets gsi).ioapic (routing.targets gsi).msi)))) → ((pic : Option TargetAnswer) → Shows w (the_reply pic)) → Replied w routing shape
+      pub open_replied : ((gsi : ℕ) → Holds w (reply (Signal (lowered_status (routing.targets gsi).pic (routing.targets gsi).ioapic (routing.targets gsi).msi)))) → ((pic : Option TargetAnswer) → Shows w shape.cpus (the_reply pic)) → Replied w routing shape
       open_replied lowers shows = record {
-        signals = open_signals shape.cpus;
+        signals = open_signals;
         plain = replies;
         lowers = lowers;
         shows = shows;

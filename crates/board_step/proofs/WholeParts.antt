@@ -1,12 +1,9 @@
 -- The board of parts, and the parts of a board.
-use Rattle.std.proofs.Common.{◌≡◌, ℕ, ◌<◌, zero, suc, true, true≢false, nat_lt, List, [], ◌∷◌, length, map, slice_get, is_some, Some, None, refl, sym, ap, ◌∙◌, arith}
-use Rattle.std.specs.Prelude.{unwrap_or}
-use Rattle.std.specs.declared.option.Option.{Option}
-use Rattle.irq_base.specs.declared.shape.Part.TheVariants.{Registry, Counters, Tick, Pic, Ioapic, Lapic}
-use Rattle.lapic.specs.Registers.{LocalApic, power_on}
-use Rattle.tick_reinject.specs.Ticks.{in_mode}
-use Rattle.irq_base.specs.declared.shape.Part.{Part}
-use Rattle.board_model.specs.Hand.{flat, part_in, all_parts}
+use Rattle.board_step.proofs.Basics.{◌≡◌, ℕ, ◌<◌, zero, suc, true, nat_lt, List, [], ◌∷◌, length, map, Some, refl, sym, ap, ◌∙◌, arith, unwrap_or, Option}
+use Rattle.board_step.proofs.Types.{Registry, Counters, Tick, Pic, Ioapic, Lapic, Part}
+use Rattle.board_step.proofs.Chips.{LocalApic, power_on, in_mode}
+use Rattle.board_step.proofs.Plans.{flat, part_in, all_parts}
+use Rattle.std.proofs.Common.{slice_get, is_some}
 use Rattle.board_step.specs.History.{opening_registry, opening_pic, opening_ioapic}
 use Rattle.board_step.specs.Whole.{is_part, BoardHasItsParts, PartsMakeTheirBoard, AllPartsAreWhole, WholePartsAreAll}
 
@@ -14,13 +11,11 @@ use Rattle.board_step.specs.Whole.{is_part, BoardHasItsParts, PartsMakeTheirBoar
 
 -- what is there is told
 told : {A : Type 0} (o : Option A) (d : A) → is_some o ≡ true → Some (unwrap_or o d) ≡ o
-told None d there = absurd (true≢false (sym there))
-told (Some x) d there = refl
+told o d h1 = grind arith
 
 -- what is there and agrees is the same
 agreed : {A : Type 0} (o : Option A) (x : A) → is_some o ≡ true → ((v : A) → o ≡ Some v → Some x ≡ Some v) → o ≡ Some x
-agreed None x there agrees = absurd (true≢false (sym there))
-agreed (Some v) x there agrees = sym (agrees v refl)
+agreed o x h1 h2 = grind arith
 
 -- ---- the row
 
@@ -88,12 +83,8 @@ all_parts_are_whole b many = record {
 }
   where
     each : (p : Part) → is_part b.shape p ≡ true → is_some (part_in (all_parts b) p) ≡ true
-    each Registry is = refl
-    each Counters is = refl
-    each Tick is = refl
-    each Pic is = refl
-    each Ioapic is = refl
     each (Lapic n) is = row_full b.lapics n (let low = below_of n b.shape.cpus is in omega (arith, low, many))
+    each _ is = refl
 
 pub whole_parts_are_all : WholePartsAreAll
 whole_parts_are_all q b agrees many whole = λ i. record {

@@ -1,28 +1,15 @@
 -- A step that is no publication leaves the published words.
-use Rattle.std.proofs.Common.{◌≡◌, ℕ, Bool, true, false, not, ◌||◌, List, [], ◌∷◌, ◌++◌, refl, sym, ap, ◌∙◌, is_some, Some, None}
-use Rattle.std.specs.declared.option.Option.{Option}
-use Rattle.irq_base.specs.Refusals.{first_of}
-use Rattle.irq_base.specs.declared.call.Call.{Call}
-use Rattle.irq_base.specs.declared.call.Call.TheVariants as calls
-use Rattle.irq_base.specs.declared.call.Caller.{Caller}
-use Rattle.irq_base.specs.declared.lists.Entry.{Entry}
-use Rattle.irq_base.specs.declared.refusal.Refusal.{Refusal}
-use Rattle.irqfd_set.specs.declared.irqfds.Irqfd.{Irqfd}
-use Rattle.irqfd_set.specs.Rows.{named_row}
-use Rattle.ioevent_set.specs.declared.row.IoRow.{IoRow}
+use Rattle.board_step.proofs.Basics.{◌≡◌, ℕ, Bool, true, false, not, ◌||◌, List, [], ◌∷◌, ◌++◌, refl, sym, ap, ◌∙◌, Some, None, Option}
+use Rattle.board_step.proofs.Types.calls
+use Rattle.board_step.proofs.Types.{first_of, Call, Caller, Entry, Refusal, Irqfd, IoRow, Done, Registry}
+use Rattle.board_step.proofs.Chips.{named_row}
+use Rattle.board_step.proofs.Plans.{Board, published, Routing, routing_of_registry, Plan, reply, ◌>>◌, Wishes, run}
+use Rattle.board_step.proofs.Calls.{range_reasons, attach_reasons, detach_reasons, unless_refused, deassigned, number_of, io_row, plan_in_range}
+use Rattle.std.proofs.Common.{is_some}
 use Rattle.ioevent_set.specs.Rows.{without_row}
-use Rattle.irq_base.specs.declared.reply.Reply.TheVariants.{Done}
-use Rattle.irq_base.specs.declared.shape.Part.TheVariants.{Registry}
-use Rattle.board_model.specs.Board.{Board}
-use Rattle.board_model.specs.Published.{published}
-use Rattle.board_model.specs.Routing.{Routing, routing_of_registry}
-use Rattle.board_model.specs.Plan.{Plan, set as put_part, reply, ◌>>◌}
-use Rattle.board_model.specs.Run.{Wishes, run}
+use Rattle.board_model.specs.Plan.{set as put_part}
 use Rattle.board_model.proofs.Staying.{frame_stays}
 use Rattle.board_raise.proofs.Manner.{Manner, registry_stays}
-use Rattle.board_calls.specs.Refusals.{range_reasons, attach_reasons, detach_reasons}
-use Rattle.board_calls.specs.Registrations.{unless_refused, deassigned}
-use Rattle.board_calls.specs.Calls.{number_of, io_row, plan_in_range}
 use Rattle.board_step.specs.Step.{refusal_of, does_publish, publishes_unless, would_publish, plan_on, outcome_of, with_counts, Step}
 use Rattle.board_step.proofs.CallManner.{replies_in, writes_in, refuses_in, call_keeps, or_true}
 use Rattle.board_step.proofs.Refusing.{refuses_first}

@@ -1,4 +1,4 @@
-use Rattle.std.proofs.Common.{◌≡◌, true, Some, sym, ap, ◌∙◌, subst}
+use Rattle.std.proofs.Common.{◌≡◌, true, sym, ◌∙◌, subst}
 use Rattle.irq_base.specs.Callers.{is_there}
 use Rattle.board_model.specs.Board.{Board}
 use Rattle.board_step.specs.Applied.{is_reached}
