@@ -23,7 +23,10 @@ lent slot room = record room { rig = record room.rig { parts = with_copy 0 slot 
 
 -- the room once the slot has the registry back, and what stood in the slot is spare
 abbrev pub returned : Slot → Workroom → Workroom
-returned slot room = record room { rig = record room.rig { parts = record room.rig.parts { registry = None } }; registry = registry_in slot }
+returned slot room = record room {
+  rig = record room.rig { parts = record room.rig.parts { registry = None } };
+  registry = registry_in slot;
+}
 
 -- a slot whose registry was lent, and to which that registry comes home, is as it was, whatever stood in it meanwhile
 abbrev pub LentComesHome : Type 0

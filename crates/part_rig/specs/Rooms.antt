@@ -64,8 +64,10 @@ IsPlaceIn row _ = Unit {0}
 
 -- the part is in hand no more; a registry and counters that were in hand are spare then
 abbrev pub cleared : Part → Workroom → Workroom
-cleared Registry room = with_parts (record room { registry = or_spare room.rig.parts.registry room.registry }) (without Registry room.rig.parts)
-cleared Counters room = with_parts (record room { counters = or_spare room.rig.parts.counters room.counters }) (without Counters room.rig.parts)
+cleared Registry room =
+    with_parts (record room { registry = or_spare room.rig.parts.registry room.registry }) (without Registry room.rig.parts)
+cleared Counters room =
+    with_parts (record room { counters = or_spare room.rig.parts.counters room.counters }) (without Counters room.rig.parts)
 cleared p room = with_parts room (without p room.rig.parts)
 
 -- nor is that of any of these places

@@ -74,7 +74,8 @@ impl Known {
         ensures notes { (view_of pen.new.seat).notes ≡ (view_of pen.old.seat).notes }
         ensures drafts { (view_of pen.new.seat).drafts ≡ (view_of pen.old.seat).drafts }
         ensures knows { HasRegistry (view_of pen.old.seat) → (view_of pen.new.seat).knows ≡ Some result.generation }
-        ensures unheld { is_some (held_at 0 (view_of pen.old.seat).held) ≡ false → (view_of pen.new.seat).knows ≡ (view_of pen.old.seat).knows }
+        ensures unheld { is_some (held_at 0 (view_of pen.old.seat).held) ≡ false
+            → (view_of pen.new.seat).knows ≡ (view_of pen.old.seat).knows }
         ensures slots { slots_of pen.new.seat ≡ slots_of pen.old.seat }
     {
         let had = book.front(pen);
@@ -86,7 +87,8 @@ impl Known {
     #[inline]
     fn keep(&mut self, index: u16, word: u64)
         requires { index < 4392 }
-        ensures places { self.new.places.items ≡ slice_set self.old.places.items index (Some (record { word = word; generation = self.old.looked })) }
+        ensures places { self.new.places.items
+            ≡ slice_set self.old.places.items index (Some (record { word = word; generation = self.old.looked })) }
         ensures looked { self.new.looked ≡ self.old.looked }
         ensures settled { self.new.settled ≡ false }
         ensures missing { self.new.missing ≡ None }
@@ -118,7 +120,8 @@ impl Known {
         requires noted { AreNoted (view_of pen.old.seat).notes self.old.places.items }
         ensures noted { AreNoted (view_of pen.new.seat).notes self.new.places.items }
         ensures under { LookedUnder self.new.looked (view_of pen.new.seat) }
-        ensures places { self.new.places.items ≡ slice_set self.old.places.items index (Some (record { word = result; generation = self.old.looked })) }
+        ensures places { self.new.places.items
+            ≡ slice_set self.old.places.items index (Some (record { word = result; generation = self.old.looked })) }
         ensures fewer { word_under self.old.looked (read_at self.old.places.items index) ≡ None
             → blanks_under self.old.looked self.new.places.items + 1 ≡ blanks_under self.old.looked self.old.places.items }
         ensures same { self.new.looked ≡ self.old.looked }
