@@ -4,3 +4,4 @@ pub mod Seen
 pub mod Closing
 pub mod Joining
 pub mod Tried
+pub mod Facing
