@@ -6,3 +6,4 @@ pub mod Openings
 pub mod Tries
 pub mod Calls
 pub mod Routes
+pub mod Faces

@@ -5,3 +5,4 @@ pub mod Closing
 pub mod Joining
 pub mod Tried
 pub mod Routed
+pub mod Facing

@@ -5,7 +5,7 @@
 //! a pass has seen to another pass, or to the desk.
 //!
 //! Reading order of the definitions: `Callers` (sets of callers), `Seen` (what a pass, a note and a desk know), `Tried` (what an
-//! attempt of a call comes to), `Routed` (where a GSI goes), `Closing` (how a board ends).
+//! attempt of a call comes to), `Routed` (where a GSI goes), `Facing` (what a face tells), `Closing` (how a board ends).
 #![tactic(auto)]
 
 mod callers;
@@ -18,6 +18,7 @@ mod gathering;
 mod learning;
 mod live;
 mod note;
+mod on_live;
 mod opening;
 mod pass;
 mod routing;
@@ -28,6 +29,7 @@ pub use desk::Desk;
 pub use error::PassError;
 pub use live::LiveBoard;
 pub use note::Note;
+pub use on_live::OnLive;
 pub use part_attempt::NotNow;
 pub use pass::Pass;
 pub use routing::Moved;

@@ -1,0 +1,4 @@
+pub mod Callers
+pub mod Asking
+pub mod Merged
+pub mod Actors
