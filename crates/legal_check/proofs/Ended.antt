@@ -9,7 +9,8 @@ use Rattle.board_model.specs.Board.{Board}
 use Rattle.board_step.specs.Step.{spent_of}
 use Rattle.script_text.specs.Asks.{caller_at}
 use Rattle.script_text.specs.Scripts.{Script}
-use Rattle.script_histories.specs.Merging.{next_of, IsWhole, AreBarred}
+use Rattle.script_merging.specs.Merging.{next_of, IsWhole}
+use Rattle.script_histories.specs.Merging.{AreBarred}
 use Rattle.legal_check.specs.Standing.{actors_in}
 use Rattle.legal_check.proofs.Known.{of-actors}
 

@@ -12,10 +12,10 @@ use Rattle.script_text.specs.declared.task.ActorLine.{ActorLine}
 use Rattle.script_text.specs.declared.progress.Progress.{Progress}
 use Rattle.script_text.specs.Asks.{same_caller, actors_of, caller_at, tasks_of, HasFollowed}
 use Rattle.script_text.specs.Scripts.{Script}
-use Rattle.script_histories.specs.Merging.{replies_of, next_of}
-use Rattle.script_histories.proofs.Callers.{callers_same, callers_apart}
-use Rattle.script_histories.proofs.Asking.{tasks_nothing, tasks_of_line, lineless_ask_nothing}
-use Rattle.script_histories.proofs.Merged.{no_replies, own_reply, others_reply}
+use Rattle.script_merging.specs.Merging.{replies_of, next_of}
+use Rattle.script_merging.proofs.Callers.{callers_same, callers_apart}
+use Rattle.script_merging.proofs.Asking.{tasks_nothing, tasks_of_line, lineless_ask_nothing}
+use Rattle.script_merging.proofs.Merged.{no_replies, own_reply, others_reply}
 use Rattle.legal_check.specs.Standing.{actors_in, progress_at, HaveFollowed}
 
 -- ---- whether a caller has lines

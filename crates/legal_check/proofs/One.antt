@@ -14,7 +14,8 @@ use Rattle.transcript.specs.declared.transcript.Transcript.{Transcript}
 use Rattle.legal_check.specs.declared.verdict.Flaw.{Flaw}
 use Rattle.legal_check.specs.declared.verdict.Flaw.TheVariants.{Asked, Reply, Ending}
 use Rattle.legal_check.specs.declared.verdict.Verdict.TheVariants.{Legal, NotAt}
-use Rattle.script_histories.specs.Merging.{IsAsked, Merges, Stand, EndsWell, Fits}
+use Rattle.script_merging.specs.Merging.{IsAsked, Merges}
+use Rattle.script_histories.specs.Merging.{Stand, EndsWell, Fits}
 use Rattle.legal_check.specs.Verdicts.{FlawAt, HasOneVerdict}
 use Rattle.legal_check.proofs.Tried.{whole}
 

@@ -12,7 +12,8 @@ use Rattle.transcript.specs.declared.transcript.Transcript.{Transcript}
 use Rattle.legal_check.specs.declared.verdict.Flaw.{Flaw}
 use Rattle.legal_check.specs.declared.verdict.Flaw.TheVariants.{Asked, Reply, Ending}
 use Rattle.script_histories.specs.Merging.{Stand, EndsWell, Fits}
-use Rattle.script_histories.proofs.Merged.{merges_more, leads_more}
+use Rattle.script_merging.proofs.Merged.{merges_more}
+use Rattle.script_histories.proofs.Leading.{leads_more}
 use Rattle.legal_check.specs.Verdicts.{HasFlaw, FlawAt}
 use Rattle.legal_check.specs.Standing.{HaveFollowed, GoesOn}
 

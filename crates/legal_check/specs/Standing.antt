@@ -7,7 +7,7 @@ use Rattle.script_text.specs.declared.progress.Phase.TheVariants.{Round}
 use Rattle.script_text.specs.declared.progress.Progress.{Progress}
 use Rattle.script_text.specs.Asks.{actors_of, caller_at, HasFollowed}
 use Rattle.script_text.specs.Scripts.{Script}
-use Rattle.script_histories.specs.Merging.{replies_of, IsAsked}
+use Rattle.script_merging.specs.Merging.{replies_of, IsAsked}
 
 -- how many actors a script has
 abbrev pub actors_in : Script → ℕ

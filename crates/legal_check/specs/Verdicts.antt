@@ -9,7 +9,8 @@ use Rattle.legal_check.specs.declared.verdict.Flaw.{Flaw}
 use Rattle.legal_check.specs.declared.verdict.Flaw.TheVariants.{Asked, Reply, Ending}
 use Rattle.legal_check.specs.declared.verdict.Verdict.{Verdict}
 use Rattle.legal_check.specs.declared.verdict.Verdict.TheVariants.{Legal, NotAt}
-use Rattle.script_histories.specs.Merging.{IsAsked, Stand, EndsWell, Fits}
+use Rattle.script_merging.specs.Merging.{IsAsked}
+use Rattle.script_histories.specs.Merging.{Stand, EndsWell, Fits}
 
 -- an entry has this flaw on a board, behind these entries; `asked` is tried first
 abbrev pub HasFlaw : Script → List Entry → Board → Entry → Flaw → Type 0

@@ -4,7 +4,7 @@ ghost use Rattle.std.specs.Option.{option_copied};
 ghost use Rattle.irq_base.specs.Callers.{is_allowed};
 ghost use Rattle.irq_base.specs.declared.lists.Entry.{Entry as AnyEntry};
 ghost use Rattle.script_text.specs.Asks.{caller_at};
-ghost use Rattle.script_histories.specs.Merging.{next_of, IsAsked};
+ghost use Rattle.script_merging.specs.Merging.{next_of, IsAsked};
 ghost use Rattle.legal_check.specs.Standing.{actors_in, progress_at, HaveFollowed};
 
 use crate::same::{same_call, same_caller};

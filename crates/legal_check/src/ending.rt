@@ -3,7 +3,8 @@ ghost use Rattle.std.specs.Prelude.{◌≡◌, ◌↔◌, List, true, is_some, l
 ghost use Rattle.irq_base.specs.Callers.{is_allowed};
 ghost use Rattle.irq_base.specs.declared.lists.Entry.{Entry as AnyEntry};
 ghost use Rattle.board_step.specs.Step.{spent_of};
-ghost use Rattle.script_histories.specs.Merging.{IsWhole, AreBarred, EndsWell};
+ghost use Rattle.script_merging.specs.Merging.{IsWhole};
+ghost use Rattle.script_histories.specs.Merging.{AreBarred, EndsWell};
 ghost use Rattle.legal_check.specs.Standing.{actors_in, HaveFollowed};
 
 use crate::actors::next_of;

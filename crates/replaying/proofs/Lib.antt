@@ -1,4 +1,3 @@
-mod RowCopies
 pub mod Unwished
 mod Turns
 mod Loops

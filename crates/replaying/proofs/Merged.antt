@@ -6,8 +6,8 @@ use Rattle.irq_base.specs.declared.call.Caller.{Caller}
 use Rattle.irq_base.specs.declared.lists.Entry.{Entry}
 use Rattle.script_text.specs.Asks.{Asks, same_caller, next_call, answered, unrolled, tasks_of, asks_after}
 use Rattle.script_text.specs.Scripts.{Script}
-use Rattle.script_histories.specs.Merging.{replies_of, IsAsked, Merges}
-use Rattle.script_histories.proofs.Merged.{own_reply, others_reply}
+use Rattle.script_merging.specs.Merging.{replies_of, IsAsked, Merges}
+use Rattle.script_merging.proofs.Merged.{own_reply, others_reply}
 use Rattle.replaying.specs.FileOrder.{AsksInTurn}
 
 module _ (s : Script) where

@@ -17,10 +17,12 @@ use Rattle.board_step.proofs.Faces.{spent_reached}
 use Rattle.board_step.proofs.Following.{board_after_is_reached}
 use Rattle.replaying.specs.declared.stops.Stop.{Stop}
 use Rattle.replaying.specs.FileOrder.{stop_of, with_stop, Leaves, Asked, LineAsked, PassedOver, LinesAsked, first_stop}
-use Rattle.script_histories.specs.Merging.{replies_of, next_of, Merges, IsWhole, AreBarred, EndsWell}
-use Rattle.script_histories.proofs.Callers.{callers_same, caller_itself}
-use Rattle.script_histories.proofs.Asking.{tasks_nothing, tasks_of_line, unrolled_nothing, unrolled_line, lineless_ask_nothing}
-use Rattle.script_histories.proofs.Merged.{no_replies, merges_append, leads_append}
+use Rattle.script_merging.specs.Merging.{replies_of, next_of, Merges, IsWhole}
+use Rattle.script_histories.specs.Merging.{AreBarred, EndsWell}
+use Rattle.script_merging.proofs.Callers.{callers_same, caller_itself}
+use Rattle.script_merging.proofs.Asking.{tasks_nothing, tasks_of_line, unrolled_nothing, unrolled_line, lineless_ask_nothing}
+use Rattle.script_merging.proofs.Merged.{no_replies, merges_append}
+use Rattle.script_histories.proofs.Leading.{leads_append}
 use Rattle.replaying.specs.Replays.{Replays}
 use Rattle.replaying.proofs.Barred.{stays_barred, stays_reached}
 use Rattle.replaying.proofs.Merged.{after, in_turn, others_stay}

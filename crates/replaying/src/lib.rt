@@ -1,7 +1,6 @@
 //! A script replayed: its lines asked of a board on one thread, in the order of the file.
 #![tactic(auto)]
 
-mod copies;
 mod laws;
 mod player;
 mod running;

@@ -9,9 +9,9 @@ ghost use Rattle.board_step.specs.Bodies.{entry_of};
 ghost use Rattle.board_step.specs.History.{opening};
 ghost use Rattle.replaying.specs.Played.{Answered, Played};
 
-use crate::copies::{call_of, list_of};
 use board_step::{Board, OpenError};
-use irq_base::{Call, Caller, Entry, Event, Events, History, NoMemory, Reply, Shape, Spent};
+use entry_copies::copied_entry;
+use irq_base::{Call, Caller, Event, Events, History, NoMemory, Reply, Shape, Spent};
 use script_text::{ActorLine, Task};
 use std::alloc::Global;
 
@@ -45,12 +45,7 @@ fn keep(
 ) -> Result<(), NoMemory>
     ensures { IfOk result (λ _. history.new ≡ history.old ++ entry_of caller call.now reply events.now ∷ []) }
 {
-    let entry = Entry {
-        caller,
-        call: call_of(alloc, call)?,
-        reply,
-        events: list_of(alloc, events)?,
-    };
+    let entry = copied_entry(alloc, caller, call, reply, events)?;
     history.push(entry)
 }
 

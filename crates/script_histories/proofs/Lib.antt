@@ -1,3 +1,1 @@
-pub mod Callers
-pub mod Asking
-pub mod Merged
+pub mod Leading
