@@ -48,7 +48,7 @@ gave_way u x y w had (Err (reasons.Busy part)) looks misses kept lost = absurd l
 gave_way u x y w had (Err (reasons.Moved from to)) looks misses kept lost = record {
   had = had;
   found = lost.found;
-  lost = record { looks = looks; misses = misses ∙ lost.misses ∙ ap (λ l. l ++ record { had = had; found = lost.found } ∷ []) kept; other = lost.other };
+  lost = record { earlier = []; looks = looks; misses = misses ∙ lost.misses ∙ ap (λ l. l ++ record { had = had; found = lost.found } ∷ []) kept; other = lost.other };
   from_is = lost.late.0;
   to_is = lost.late.1;
   differ = lost.late.2;
@@ -56,7 +56,7 @@ gave_way u x y w had (Err (reasons.Moved from to)) looks misses kept lost = reco
 gave_way u x y w had (Err (reasons.Front before now)) looks misses kept lost = record {
   had = had;
   found = lost.found;
-  lost = record { looks = looks; misses = misses ∙ lost.misses ∙ ap (λ l. l ++ record { had = had; found = lost.found } ∷ []) kept; other = lost.other };
+  lost = record { earlier = []; looks = looks; misses = misses ∙ lost.misses ∙ ap (λ l. l ++ record { had = had; found = lost.found } ∷ []) kept; other = lost.other };
   generation = lost.late.0;
   had_is = lost.late.1;
   now_is = lost.late.2;

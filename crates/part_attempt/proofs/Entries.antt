@@ -1,7 +1,7 @@
 -- The entry of a call that was made on copies of all parts.
 use Rattle.std.proofs.Common.{◌≡◌, ℕ, zero, suc, ◌+◌, ◌<◌, ◌≤◌, ◌-◌, Bool, true, false, List, [], ◌∷◌, ◌++◌, length, map, take, slice_get, is_some, All, Some, None, refl, sym, ap, ◌∙◌, subst, arith}
 use Rattle.std.proofs.lemmas.List.{take_all}
-use Rattle.std.specs.Prelude.{IfSome, IfOk, Result, Ok, Err, option_map, unwrap_or}
+use Rattle.std.specs.Prelude.{IfSome, IfOk, IfErr, Result, Ok, Err, option_map, unwrap_or}
 use Rattle.std.specs.declared.option.Option.{Option}
 use Rattle.irq_base.specs.Callers.{is_allowed}
 use Rattle.irq_base.specs.Room.{with_told}
@@ -38,7 +38,7 @@ use Rattle.turn_book.specs.Hands.{held_at, slot_at}
 use Rattle.turn_book.specs.Histories.{is_in}
 use Rattle.turn_book.specs.Many.{HoldsJust}
 use Rattle.turn_book.specs.Plays.{IsAt, LeadsOn, HoldsReach, HasDrafted}
-use Rattle.turn_book.specs.Views.{IsLegal, HoldsRight}
+use Rattle.turn_book.specs.Views.{IsLegal, HoldsRight, SameWords, AfterEntry}
 use Rattle.turn_copies.specs.Copies.{written_at}
 use Rattle.part_slots.specs.declared.slot.Slot.{Slot}
 use Rattle.part_slots.specs.Commits.{Seen}
@@ -59,6 +59,11 @@ use Rattle.part_attempt.proofs.Standing.{some_is, stands, many, right_is, held_i
 
 pub follows_named : (named : Option Entry) (e : Entry) (before after : Option Board) (r : Result ℕ Front) → named ≡ Some e → IfOk r (λ at. IfSome named (λ x. (s t : Board) → before ≡ Some s → after ≡ Some t → IsStep s x t)) → IfOk r (λ at. (s t : Board) → before ≡ Some s → after ≡ Some t → IsStep s e t)
 follows_named named e before after r is follows = subst (λ o. IfOk r (λ at. IfSome o (λ x. (s t : Board) → before ≡ Some s → after ≡ Some t → IsStep s x t))) is follows
+
+-- an exchange of the front leaves the notes
+pub notes_kept : (v w : Seen) (publishes : Bool) (r : Result ℕ Front) → IfOk r (λ at. AfterEntry publishes v w) → IfErr r (λ now. SameWords v w) → w.notes ≡ v.notes
+notes_kept v w publishes (Ok at) won lost = won.0
+notes_kept v w publishes (Err now) won lost = lost.0
 
 -- ---- events
 

@@ -49,9 +49,10 @@ pub record IsBarred (shape : Shape) (call : Call) (spent : Spent) (now : List En
 
 -- ---- why it gave way
 
--- the front was looked up once, and the one exchange that expected it found another
+-- the exchange that expected the front of the last look found another; of the attempt it is the only one
 pub record LostExchange (v w : Seen) (had found : Front) : Type 0 where
-  pub looks : w.looks ≡ v.looks ++ had ∷ []
+  pub earlier : List Front
+  pub looks : w.looks ≡ v.looks ++ (earlier ++ had ∷ [])
   pub misses : w.misses ≡ v.misses ++ record { had = had; found = found } ∷ []
   pub other : found ≢ had
 

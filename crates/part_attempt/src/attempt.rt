@@ -34,8 +34,8 @@ struct Looked {
     had: Front,
 }
 
-// Why an attempt gave way whose exchange found another front than that of its look.
-fn late(had: Front, now: Front) -> NotNow
+/// Why an attempt gave way whose exchange found another front than that of its look.
+pub fn late(had: Front, now: Front) -> NotNow
     requires { now ≢ had }
     ensures { IsLate had now result }
 {

@@ -67,13 +67,14 @@ fn commit_named<N: Entering<Entry>>(
     ensures looks { (view_of pen.new.seat).looks ≡ (view_of pen.old.seat).looks }
     ensures turns { ((view_of pen.new.seat).took ≡ (view_of pen.old.seat).took) × ((view_of pen.new.seat).found ≡ (view_of pen.old.seat).found) }
     ensures place { SamePlace (view_of pen.old.seat) (view_of pen.new.seat) }
+    ensures notes { (view_of pen.new.seat).notes ≡ (view_of pen.old.seat).notes }
     ensures slots { slots_of pen.new.seat ≡ slots_of pen.old.seat }
 {
     book.commit::<N>(pen, answered.had, publish)
 }
 
-// One exchange of the front by the entry of a call that was answered so, with these events.
-fn commit_answered(
+/// One exchange of the front by the entry of a call that was answered so, with these events.
+pub fn commit_answered(
     book: &TurnBook<RunningBoard>,
     pen: &mut Pen<RunningBoard>,
     answered: Answered,
@@ -103,6 +104,7 @@ fn commit_answered(
     ensures looks { (view_of pen.new.seat).looks ≡ (view_of pen.old.seat).looks }
     ensures turns { ((view_of pen.new.seat).took ≡ (view_of pen.old.seat).took) × ((view_of pen.new.seat).found ≡ (view_of pen.old.seat).found) }
     ensures place { SamePlace (view_of pen.old.seat) (view_of pen.new.seat) }
+    ensures notes { (view_of pen.new.seat).notes ≡ (view_of pen.old.seat).notes }
     ensures slots { slots_of pen.new.seat ≡ slots_of pen.old.seat }
 {
     commit_named::<Brand>(book, pen, answered, call, events, publish)

@@ -13,6 +13,8 @@ mod not_now;
 mod places;
 mod publishing;
 
-pub use attempt::on_all;
+pub use attempt::{late, on_all};
+pub use entering::{Answered, commit_answered};
 pub use not_now::NotNow;
 pub use places::{Places, all_places};
+pub use publishing::{did_publish, draft};

@@ -5,3 +5,4 @@ pub mod Ends
 pub mod Openings
 pub mod Tries
 pub mod Calls
+pub mod Reached
