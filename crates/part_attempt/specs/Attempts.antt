@@ -1,34 +1,23 @@
 -- What one attempt of a call on a running board comes to (this board's own rule).
 use Rattle.std.specs.Prelude.{◌≡◌, ◌≢◌, ℕ, ◌+◌, ◌<◌, List, [], ◌∷◌, ◌++◌, length, All, Some, Result, Ok, Err}
 use Rattle.irq_base.specs.declared.call.Call.{Call}
-use Rattle.irq_base.specs.declared.call.Caller.{Caller}
-use Rattle.irq_base.specs.declared.event.Event.{Event}
 use Rattle.irq_base.specs.declared.lists.Entry.{Entry}
 use Rattle.irq_base.specs.declared.reply.Done.{Done}
 use Rattle.irq_base.specs.declared.reply.Spent.{Spent}
 use Rattle.irq_base.specs.declared.shape.Shape.{Shape}
-use Rattle.ack_notifiers.specs.declared.watches.Watch.{Watch}
 use Rattle.board_model.specs.Board.{Board}
-use Rattle.board_model.specs.Hand.{all_parts}
-use Rattle.board_model.specs.Published.{published, IsSoundIrqfd}
-use Rattle.board_raise.specs.declared.parts.Parts.{Parts}
 use Rattle.board_raise.specs.declared.parts.RegistryPart.{RegistryPart}
-use Rattle.board_raise.specs.Fit.{PinsFit}
-use Rattle.board_raise.specs.InHand.{registry_of, parts_of, chips_of}
-use Rattle.board_step.specs.Bodies.{entry_of}
 use Rattle.board_step.specs.History.{opening, Leads}
 use Rattle.board_step.specs.Step.{spent_of}
 use Rattle.route_bank.specs.Indices.{AreInRange, words_with}
 use Rattle.turn_book.specs.declared.view.Front.{Front}
 use Rattle.turn_book.specs.Histories.{IsPrefix, entries_of}
-use Rattle.turn_book.specs.Many.{up_to}
 use Rattle.turn_book.specs.Views.{AddsNoneOfOwn}
 use Rattle.part_slots.specs.Commits.{Seen}
-use Rattle.part_slots.specs.Running.{IsStep, caller_of}
+use Rattle.part_slots.specs.Running.{caller_of}
 use Rattle.part_slots.specs.Slots.{place}
 use Rattle.part_attempt.specs.declared.not_now.NotNow.{NotNow}
 use Rattle.part_attempt.specs.declared.not_now.NotNow.TheVariants as reasons
-use Rattle.part_copies.specs.Places.{up_from}
 
 -- ---- what came of it
 
@@ -49,9 +38,10 @@ pub record IsBarred (shape : Shape) (call : Call) (spent : Spent) (now : List En
 
 -- ---- why it gave way
 
--- the front was looked up once, and the one exchange that expected it found another
+-- the exchange that expected the front of the last look found another; of the attempt it is the only one
 pub record LostExchange (v w : Seen) (had found : Front) : Type 0 where
-  pub looks : w.looks ≡ v.looks ++ had ∷ []
+  pub earlier : List Front
+  pub looks : w.looks ≡ v.looks ++ (earlier ++ had ∷ [])
   pub misses : w.misses ≡ v.misses ++ record { had = had; found = found } ∷ []
   pub other : found ≢ had
 
@@ -127,17 +117,12 @@ OnAnswer _ P = P
 
 -- ---- turns
 
--- the turns that are won: those of all parts in order, up to one that is found taken
-abbrev pub turns_won : Shape → Answer → List ℕ
-turns_won shape (Err (reasons.Busy part)) = up_to (place part) (up_from 0 (5 + shape.cpus))
-turns_won shape _ = up_from 0 (5 + shape.cpus)
-
 -- the turns that are found taken: one where the attempt is answered Busy
 abbrev pub turns_found : Answer → List ℕ
 turns_found (Err (reasons.Busy part)) = place part ∷ []
 turns_found _ = []
 
--- ---- on the copies
+-- ---- a registry in hand
 
 -- irqfds, notifiers and ticks of a registry in hand name triggers and GSIs that there can be
 abbrev pub NamesInRange : ℕ → RegistryPart → Type 0
@@ -146,12 +131,3 @@ NamesInRange tick registry = AreInRange registry.irqfds registry.watches tick
 -- the words that a registry in hand publishes
 abbrev pub words_in_hand : RegistryPart → ℕ → List ℕ
 words_in_hand registry tick = words_with registry.table registry.irqfds registry.watches tick
-
--- an entry is a step from the board that the seat's list leaves, and the parts are all those of the board after it
-pub record IsMade (v : Seen) (e : Entry) (q : Parts) : Type 0 where
-  pub before : Board
-  pub after : Board
-  pub now : v.now ≡ Some before
-  pub step : IsStep before e after
-  pub parts : parts_of q ≡ all_parts after
-  pub pins : PinsFit (chips_of q)

@@ -1,31 +1,22 @@
-//! The entry of a call that was made on copies of all parts.
-ghost use Rattle.std.specs.Prelude.{◌≡◌, ◌≢◌, ℕ, ◌+◌, ◌∷◌, ◌++◌, [], length, is_some, true, IfOk, IfErr, IfSome, Some};
-ghost use Rattle.irq_base.specs.Callers.{is_allowed};
+//! The entry of a call that was answered.
+ghost use Rattle.std.specs.Prelude.{◌≡◌, ◌≢◌, ℕ, ◌∷◌, ◌++◌, [], is_some, true, IfOk, IfErr, Some};
 ghost use Rattle.board_model.specs.Board.{Board};
-ghost use Rattle.board_step.specs.History.{opening};
-ghost use Rattle.board_raise.specs.Fit.{InLimits};
 ghost use Rattle.board_step.specs.Publications.{words};
 ghost use Rattle.board_step.specs.Step.{is_publication};
 ghost use Rattle.turn_book.specs.Banks.{HasRegistry};
-ghost use Rattle.turn_book.specs.Hands.{AreHome, held_at};
+ghost use Rattle.turn_book.specs.Hands.{held_at};
 ghost use Rattle.turn_book.specs.Histories.{IsPrefix};
-ghost use Rattle.turn_book.specs.Many.{HoldsJust};
 ghost use Rattle.turn_book.specs.Plays.{IsLastLook, LeadsOn, HoldsReach, HasDrafted};
 ghost use Rattle.turn_book.specs.Views.{view_of, slots_of, IsLegal, HoldsRight, AddsNoneOfOwn, SamePlace};
 ghost use Rattle.part_slots.specs.Callers.{caller_number};
 ghost use Rattle.part_slots.specs.Running.{Opens, IsStep, caller_of, reach_at};
 ghost use Rattle.part_slots.specs.Slots.{slots_of as slots_of_board};
 ghost use Rattle.part_attempt.specs.Entering.{entry_answered};
-ghost use Rattle.part_copies.specs.Places.{up_from};
-ghost use Rattle.part_attempt.specs.Attempts.{IsMade};
 
-use crate::publishing::{did_publish, draft};
-use irq_base::{Call, Caller, Entry, Events, Reply, Shape};
-use part_copies::Room;
+use irq_base::{Call, Caller, Entry, Events, Reply};
 use part_machine::RunningBoard;
 use std::marker::Brand;
 use turn_book::{Entering, Front, Pen, TurnBook};
-use turn_copies::write_each;
 
 /// What a call on copies came to, and the look at the front before it.
 #[derive(Clone, Copy)]
@@ -67,13 +58,14 @@ fn commit_named<N: Entering<Entry>>(
     ensures looks { (view_of pen.new.seat).looks ≡ (view_of pen.old.seat).looks }
     ensures turns { ((view_of pen.new.seat).took ≡ (view_of pen.old.seat).took) × ((view_of pen.new.seat).found ≡ (view_of pen.old.seat).found) }
     ensures place { SamePlace (view_of pen.old.seat) (view_of pen.new.seat) }
+    ensures notes { (view_of pen.new.seat).notes ≡ (view_of pen.old.seat).notes }
     ensures slots { slots_of pen.new.seat ≡ slots_of pen.old.seat }
 {
     book.commit::<N>(pen, answered.had, publish)
 }
 
-// One exchange of the front by the entry of a call that was answered so, with these events.
-fn commit_answered(
+/// One exchange of the front by the entry of a call that was answered so, with these events.
+pub fn commit_answered(
     book: &TurnBook<RunningBoard>,
     pen: &mut Pen<RunningBoard>,
     answered: Answered,
@@ -103,58 +95,8 @@ fn commit_answered(
     ensures looks { (view_of pen.new.seat).looks ≡ (view_of pen.old.seat).looks }
     ensures turns { ((view_of pen.new.seat).took ≡ (view_of pen.old.seat).took) × ((view_of pen.new.seat).found ≡ (view_of pen.old.seat).found) }
     ensures place { SamePlace (view_of pen.old.seat) (view_of pen.new.seat) }
+    ensures notes { (view_of pen.new.seat).notes ≡ (view_of pen.old.seat).notes }
     ensures slots { slots_of pen.new.seat ≡ slots_of pen.old.seat }
 {
     commit_named::<Brand>(book, pen, answered, call, events, publish)
-}
-
-// The entry of a call that was made on copies of all parts: it is committed, and the copies are written into the slots; or
-// another front is found, and the slots stay. The words of a publication are written before.
-pub(crate) fn enter(
-    book: &TurnBook<RunningBoard>,
-    pen: &mut Pen<RunningBoard>,
-    shape: &Shape,
-    places: &[u32],
-    room: &Room,
-    answered: Answered,
-    call: &Call,
-    events: &Events,
-) -> Result<u64, Front>
-    requires book { pen.old.seat.table_id ≡ book.now.table.shared.table_id }
-    requires width { book.now.width ≡ 4392 }
-    requires limits { InLimits shape.now }
-    requires places { places.now ≡ up_from 0 (5 + shape.now.cpus) }
-    requires just { HoldsJust places.now (view_of pen.old.seat).held }
-    requires home { AreHome (view_of pen.old.seat).held (slots_of pen.old.seat) }
-    requires begins { (view_of pen.old.seat).begin ≡ Some (opening shape.now) }
-    requires legal { IsLegal Opens IsStep (view_of pen.old.seat) }
-    requires holds { HoldsRight slots_of_board (view_of pen.old.seat) }
-    requires last_look { IsLastLook answered.had (view_of pen.old.seat) }
-    requires knows { is_some (view_of pen.old.seat).knows ≡ true }
-    requires caller { (view_of pen.old.seat).caller ≡ Some (caller_number answered.caller) }
-    requires allowed { is_allowed answered.caller call.now shape.now ≡ true }
-    requires made { IsMade (view_of pen.old.seat) (entry_answered answered call.now events.now.items) room.now.parts }
-    ensures book { pen.new.seat.table_id ≡ pen.old.seat.table_id }
-    ensures home { AreHome (view_of pen.new.seat).held (slots_of pen.new.seat) }
-    ensures just { HoldsJust places.now (view_of pen.new.seat).held }
-    ensures entered { IfOk result (λ _. (view_of pen.new.seat).seen ≡ (view_of pen.old.seat).seen ++ entry_answered answered call.now events.now.items ∷ []) }
-    ensures kept { IfOk result (λ _. (view_of pen.new.seat).misses ≡ (view_of pen.old.seat).misses) }
-    ensures other { IfErr result (λ now. now ≢ answered.had) }
-    ensures missed { IfErr result (λ now. (view_of pen.new.seat).misses ≡ (view_of pen.old.seat).misses ++ record { had = answered.had; found = now } ∷ []) }
-    ensures lost { IfErr result (λ _. AddsNoneOfOwn caller_of (view_of pen.old.seat) (view_of pen.new.seat)) }
-    ensures seen { IsPrefix (view_of pen.old.seat).seen (view_of pen.new.seat).seen }
-    ensures legal { IsLegal Opens IsStep (view_of pen.new.seat) }
-    ensures looks { (view_of pen.new.seat).looks ≡ (view_of pen.old.seat).looks }
-    ensures turns { ((view_of pen.new.seat).took ≡ (view_of pen.old.seat).took) × ((view_of pen.new.seat).found ≡ (view_of pen.old.seat).found) }
-    ensures place { SamePlace (view_of pen.old.seat) (view_of pen.new.seat) }
-{
-    let publish = did_publish(call, answered.reply);
-    draft(book, pen, shape, &room.parts, publish);
-    match commit_answered(book, pen, answered, call, events, publish) {
-        Err(now) => Err(now),
-        Ok(at) => {
-            write_each(book, pen, places, room);
-            Ok(at)
-        }
-    }
 }

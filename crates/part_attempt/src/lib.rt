@@ -1,18 +1,19 @@
-//! One attempt of a call on all parts of a running board.
+//! What attempts of calls on a running board have in common.
 //!
-//! The call is made on a board of copies; its entry is committed by one exchange of the front; and only then the copies are written
-//! into the slots. The words of a publication are written to the spare bank before the exchange.
+//! What a call did on copies is entered by one exchange of the front, and only then the copies are written into the slots. The words
+//! of a publication are written to the spare bank before the exchange.
 //!
 //! Reading order of the definitions: `Attempts` (what an attempt comes to), `Entering`.
 #![tactic(auto)]
 
-mod attempt;
-mod copying;
 mod entering;
+mod losing;
 mod not_now;
 mod places;
 mod publishing;
 
-pub use attempt::on_all;
+pub use entering::{Answered, commit_answered};
+pub use losing::late;
 pub use not_now::NotNow;
-pub use places::{Places, all_places};
+pub use places::Places;
+pub use publishing::{did_publish, draft};

@@ -12,8 +12,8 @@ use part_machine::RunningBoard;
 use route_bank::publish as write_words;
 use turn_book::{Pen, TurnBook};
 
-// Whether a call that was answered so was a publication.
-pub(crate) fn did_publish(call: &Call, reply: Reply) -> bool
+/// Whether a call that was answered so was a publication.
+pub fn did_publish(call: &Call, reply: Reply) -> bool
     ensures { result ≡ did_publish call.now reply }
 {
     match call {
@@ -25,8 +25,8 @@ pub(crate) fn did_publish(call: &Call, reply: Reply) -> bool
     }
 }
 
-// For a publication the words of the registry in hand are written to the spare bank.
-pub(crate) fn draft(
+/// For a publication the words of the registry in hand are written to the spare bank.
+pub fn draft(
     book: &TurnBook<RunningBoard>,
     pen: &mut Pen<RunningBoard>,
     shape: &Shape,
@@ -35,7 +35,7 @@ pub(crate) fn draft(
 )
     requires book { pen.old.seat.table_id ≡ book.now.table.shared.table_id }
     requires width { book.now.width ≡ 4392 }
-    requires knows { is_some (view_of pen.old.seat).knows ≡ true }
+    requires knows { publish ≡ true → is_some (view_of pen.old.seat).knows ≡ true }
     requires range { IfSome parts.now.registry (NamesInRange shape.now.tick) }
     ensures book { pen.new.seat.table_id ≡ pen.old.seat.table_id }
     ensures drafted { publish ≡ true → IfSome parts.now.registry (λ registry. AreDrafted (words_in_hand registry shape.now.tick) (view_of pen.new.seat).drafts) }

@@ -7,3 +7,4 @@ pub mod Tries
 pub mod Calls
 pub mod Routes
 pub mod Faces
+pub mod Reached

@@ -1,7 +1,6 @@
 -- What an attempt of a call comes to, from before it took all turns.
 use Rattle.std.proofs.Common.{◌≡◌, ℕ, List, [], ◌∷◌, ◌++◌, ◌+◌, length, Some, None, refl, sym, ap, ◌∙◌, subst, is_some, true, false, true≢false, ◌<◌, arith, inl, inr}
 use Rattle.std.proofs.lemmas.Bool.Decides.{leb_tells}
-use Rattle.part_copies.proofs.AllPlaces.{out_past}
 use Rattle.std.specs.Prelude.{Ok, Err, IfSome, option_map}
 use Rattle.std.specs.declared.option.Option.{Option}
 use Rattle.irq_base.specs.declared.call.Call.{Call}
@@ -16,33 +15,14 @@ use Rattle.turn_book.specs.Views.{AddsNoneOfOwn, IsLegal}
 use Rattle.part_slots.specs.Callers.{caller_number}
 use Rattle.part_slots.specs.Commits.{Seen}
 use Rattle.part_slots.specs.Running.{Opens, IsStep, caller_of}
-use Rattle.part_copies.specs.declared.room.Room.{Room}
-use Rattle.part_copies.specs.Rooms.{IsRoom}
 use Rattle.part_attempt.specs.declared.not_now.NotNow.TheVariants as reasons
-use Rattle.part_attempt.specs.Attempts.{Answer, EntersBehind, GaveWay, IfEntered, IfGaveWay, OnNoEntry, OnAnswer, turns_won, turns_found}
-use Rattle.part_copies.specs.Places.{up_from}
+use Rattle.part_attempt.specs.Attempts.{Answer, EntersBehind, GaveWay, IfEntered, IfGaveWay, OnNoEntry, OnAnswer, turns_found}
 use Rattle.part_board.specs.Seen.{entries_by, Learnt}
 use Rattle.part_board.specs.Tried.{IsEntered}
 use Rattle.part_board.proofs.Learnt.{own_are, learnt_at}
 
 some_is : {A : Type 0} (x y : A) → Some x ≡ Some y → x ≡ y
 some_is x y e = cc
-
--- the room of a pass
-pub room_is : (shape : Shape) (o : Option Room) (room : Room) → o ≡ Some room → option_map (λ (r : Room). is_some r.parts.registry) o ≡ Some true
-    → option_map (λ (r : Room). option_map (λ (c : List ℕ). length c) r.parts.counters) o ≡ Some (Some shape.counters) → option_map (λ (r : Room). length r.parts.lapics) o ≡ Some shape.cpus → IsRoom shape room
-room_is shape o room is registry counters places = record {
-  registry = some_is (is_some room.parts.registry) true (sym (ap (option_map (λ (r : Room). is_some r.parts.registry)) is) ∙ registry);
-  counters = some_is (option_map (λ (c : List ℕ). length c) room.parts.counters) (Some shape.counters) (sym (ap (option_map (λ (r : Room). option_map (λ (c : List ℕ). length c) r.parts.counters)) is) ∙ counters);
-  places = some_is (length room.parts.lapics) shape.cpus (sym (ap (option_map (λ (r : Room). length r.parts.lapics)) is) ∙ places);
-}
-
--- a place of all is low
-pub in_low : (q n : ℕ) → is_in q (up_from 0 n) ≡ true → q < n
-in_low q n within = elim (leb_tells n q) [
-  | inl h ↦ absurd (true≢false (sym within ∙ out_past q 0 n (let past = h.1 in omega (arith, past))))
-  | inr h ↦ (let low = h.1 in omega (arith, low))
-]
 
 -- the views of the pass before (v), with all turns (u), and after (w)
 module _ (v u w : Seen) where
@@ -63,7 +43,7 @@ module _ (v u w : Seen) where
   gave_way (Err (reasons.Moved from to)) looks misses none is = record {
     had = is.had;
     found = is.found;
-    lost = record { looks = is.lost.looks ∙ ap (λ l. l ++ is.had ∷ []) looks; misses = is.lost.misses ∙ ap (λ l. l ++ record { had = is.had; found = is.found } ∷ []) misses; other = is.lost.other };
+    lost = record { earlier = is.lost.earlier; looks = is.lost.looks ∙ ap (λ l. l ++ (is.lost.earlier ++ is.had ∷ [])) looks; misses = is.lost.misses ∙ ap (λ l. l ++ record { had = is.had; found = is.found } ∷ []) misses; other = is.lost.other };
     from_is = is.from_is;
     to_is = is.to_is;
     differ = is.differ;
@@ -71,7 +51,7 @@ module _ (v u w : Seen) where
   gave_way (Err (reasons.Front before now)) looks misses none is = record {
     had = is.had;
     found = is.found;
-    lost = record { looks = is.lost.looks ∙ ap (λ l. l ++ is.had ∷ []) looks; misses = is.lost.misses ∙ ap (λ l. l ++ record { had = is.had; found = is.found } ∷ []) misses; other = is.lost.other };
+    lost = record { earlier = is.lost.earlier; looks = is.lost.looks ∙ ap (λ l. l ++ (is.lost.earlier ++ is.had ∷ [])) looks; misses = is.lost.misses ∙ ap (λ l. l ++ record { had = is.had; found = is.found } ∷ []) misses; other = is.lost.other };
     generation = is.generation;
     had_is = is.had_is;
     now_is = is.now_is;
@@ -86,10 +66,3 @@ module _ (v u w : Seen) where
   pub kept : (r : Answer) → u.misses ≡ v.misses → OnAnswer r (w.misses ≡ u.misses) → OnAnswer r (w.misses ≡ v.misses)
   kept (Ok r) same is = is ∙ same
   kept (Err why) same is = tt
-
-  -- all turns were won, and none was found taken
-  pub all_won : (shape : Shape) (r : Answer) → turns_found r ≡ [] → turns_won shape r ≡ up_from 0 (5 + shape.cpus)
-  all_won shape (Ok r) none = refl
-  all_won shape (Err (reasons.Busy part)) none = cc
-  all_won shape (Err (reasons.Moved from to)) none = refl
-  all_won shape (Err (reasons.Front before now)) none = refl

@@ -15,7 +15,7 @@ use crate::live::LiveBoard;
 use crate::note::Note;
 use crate::pass::Pass;
 use irq_base::Caller;
-use part_copies::Room;
+use part_rig::Workroom;
 use part_slots::caller_number;
 use std::alloc::Global;
 
@@ -43,7 +43,7 @@ impl Desk {
         if self.made.has(caller) {
             return Err(PassError::Taken);
         }
-        let Ok(room) = Room::of(alloc, &board.shape) else {
+        let Ok(room) = Workroom::of(alloc, &board.shape, &self.pen) else {
             return Err(PassError::NoMemory);
         };
         let _ = board.book.front(&mut self.pen);
@@ -53,7 +53,7 @@ impl Desk {
             pen,
             caller,
             shape: self.shape,
-            room: Some(room),
+            room,
         })
     }
 

@@ -1,13 +1,15 @@
 //! One caller's way to a running board.
-ghost use Rattle.std.specs.Prelude.{◌≡◌, ℕ, List, [], length, option_map, Some, is_some, true, false};
-ghost use Rattle.part_copies.specs.declared.room.Room.{Room};
+ghost use Rattle.std.specs.Prelude.{◌≡◌, [], length, Some, true, false};
 ghost use Rattle.irq_base.specs.Callers.{is_there};
 ghost use Rattle.board_step.specs.History.{opening};
 ghost use Rattle.part_slots.specs.Callers.{caller_number};
+ghost use Rattle.part_rig.specs.Readings.{AreNoted};
+ghost use Rattle.part_rig.specs.Rooms.{AreAt};
+ghost use Rattle.part_reach.specs.Kept.{has_registry_room, counters_in};
 
 use irq_base::{Caller, Shape};
-use part_copies::Room;
 use part_machine::RunningBoard;
+use part_rig::Workroom;
 use turn_book::Pen;
 
 /// One caller's way to a running board. Its history begins with the board at power-on, and between two calls it holds nothing.
@@ -16,16 +18,18 @@ pub struct Pass {
     pub(crate) pen: Pen<RunningBoard>,
     pub(crate) caller: Caller,
     pub(crate) shape: Shape,
-    // for the copies of a call
-    pub(crate) room: Option<Room>,
+    // for the copies of a call, and what is known of the published words
+    pub(crate) room: Workroom,
     pub ghost begins: { (pen.seat.me.0).begin ≡ Some (opening shape) },
     pub ghost bare: { (pen.seat.me.0).held ≡ [] },
     pub ghost named: { (pen.seat.me.0).caller ≡ Some (caller_number caller) },
     pub ghost plain: { (pen.seat.me.0).is_desk ≡ false },
     pub ghost there: { is_there caller shape ≡ true },
-    pub ghost registry_room: { option_map (λ (r : Room). is_some r.parts.registry) room ≡ Some true },
-    pub ghost counters_room: { option_map (λ (r : Room). option_map (λ (c : List ℕ). length c) r.parts.counters) room ≡ Some (Some shape.counters) },
-    pub ghost lapics_room: { option_map (λ (r : Room). length r.parts.lapics) room ≡ Some shape.cpus },
+    pub ghost registry_room: { has_registry_room room ≡ true },
+    pub ghost counters_room: { counters_in room ≡ Some shape.counters },
+    pub ghost lapics_room: { length room.rig.parts.lapics ≡ shape.cpus },
+    pub ghost empty_handed: { AreAt [] room.rig.parts },
+    pub ghost noted: { AreNoted (pen.seat.me.0).notes room.rig.known.places.items },
 }
 
 impl Pass {

@@ -3,15 +3,16 @@ ghost use Rattle.std.specs.Prelude.{◌≡◌, ◌++◌, [], true};
 ghost use Rattle.irq_base.specs.Callers.{is_allowed};
 ghost use Rattle.board_step.specs.History.{Legal};
 ghost use Rattle.turn_book.specs.Histories.{IsPrefix};
-ghost use Rattle.part_attempt.specs.Attempts.{IsBarred, GaveWay, IfEntered, IfBarred, IfGaveWay, OnNoEntry, OnAnswer, turns_won, turns_found};
+ghost use Rattle.part_attempt.specs.Attempts.{IsBarred, GaveWay, IfEntered, IfBarred, IfGaveWay, OnNoEntry, OnAnswer, turns_found};
+ghost use Rattle.part_reach.specs.Turns.{AddsReached, FindsReached, seen_before_own};
 ghost use Rattle.part_board.specs.Seen.{pass_view, pass_seen, IsPassOf, Learnt};
 ghost use Rattle.part_board.specs.Tried.{IsEntered};
 
 use crate::live::LiveBoard;
 use crate::pass::Pass;
 use irq_base::{Call, Done, Events, Spent};
-use part_attempt::{NotNow, all_places, on_all};
-use part_slots::part_at;
+use part_attempt::NotNow;
+use part_reach::attempt;
 
 impl LiveBoard {
     /// One attempt of a call by the pass, which waits for nobody. The call is allowed to the caller of the pass.
@@ -19,9 +20,9 @@ impl LiveBoard {
     /// `Ok(Ok(done))`: the call has its entry, with the reply of `done` and the events that are handed out, at the place
     /// `done.at` of the history. `Ok(Err(spent))`: that limit bars the call where the pass now stands. `Err` tells why the attempt
     /// gave way: `Busy`, where it found the turn of that part taken; `Moved` and `Front`, where its one exchange found another
-    /// front than its look before. In these two cases there is no entry, no event is handed out, and no part changes.
+    /// front than its last look before. In these two cases there is no entry, no event is handed out, and no part changes.
     ///
-    /// It takes the turns of all parts, in order, and holds none afterwards. It takes no memory.
+    /// It takes the turns of parts that the call reaches, and of no others, and holds none afterwards. It takes no memory.
     pub fn try_call(
         &self,
         pass: &mut Pass,
@@ -40,32 +41,20 @@ impl LiveBoard {
         ensures quiet { OnNoEntry result (events.new.items ≡ []) }
         ensures gave_way { IfGaveWay result (GaveWay (pass_view pass.old) (pass_view pass.new)) }
         ensures kept { OnAnswer result ((pass_view pass.new).misses ≡ (pass_view pass.old).misses) }
-        ensures took { (pass_view pass.new).took ≡ (pass_view pass.old).took ++ turns_won self.now.shape result }
+        ensures took { AddsReached self.now.shape pass.old.caller call.now (pass_seen pass.old) (seen_before_own result (pass_seen pass.new))
+            (pass_view pass.old).took (pass_view pass.new).took }
         ensures found { (pass_view pass.new).found ≡ (pass_view pass.old).found ++ turns_found result }
+        ensures reached { FindsReached self.now.shape pass.old.caller call.now result (pass_seen pass.new) }
     {
-        events.clear();
-        let places = all_places(self.shape.cpus);
-        if let Err(place) = self.book.take_all(&mut pass.pen, places.as_slice()) {
-            let _ = self.book.front(&mut pass.pen);
-            return Err(NotNow::Busy {
-                part: part_at(place),
-            });
-        }
-        let Some(room) = pass.room.take() else {
-            unreachable!()
-        };
         let caller = pass.caller;
-        let (result, room) = on_all(
+        attempt(
             &self.book,
             &mut pass.pen,
             &self.shape,
-            places.as_slice(),
-            room,
+            &mut pass.room,
             caller,
             call,
             events,
-        );
-        pass.room = Some(room);
-        result
+        )
     }
 }

@@ -1,5 +1,7 @@
-use Rattle.std.proofs.Common.{◌≡◌, ◌∷◌, true, refl, sym, ap, ◌∙◌, subst}
+use Rattle.std.proofs.Common.{◌≡◌, ◌∷◌, Some, true, refl, sym, ap, ◌∙◌, subst}
 use Rattle.irq_base.specs.Callers.{is_there}
+use Rattle.irq_base.specs.declared.shape.Shape.{Shape}
+use Rattle.part_reach.proofs.OnHand.{nothing_in}
 use Rattle.board_step.specs.History.{Legal}
 use Rattle.turn_book.specs.Histories.{IsPrefix, is_in}
 use Rattle.part_slots.specs.Callers.{caller_number}
@@ -38,3 +40,18 @@ returns-clause-pass c =
       legal = subst (λ s. Legal s c.split-pen.result.seat.me.0.seen) c.requires.desk.shape (subst (Legal desk.shape) (sym same) (legal_of desk.shape w begins c.front.ensures.legal));
       fresh = ap (entries_by c.args.caller) same ∙ none;
     }
+
+pub invariant_of-result-clause-registry_room : goal.invariant_of-result-clause-registry_room
+invariant_of-result-clause-registry_room c = c.in_ok-room.ensures.room.registry
+
+pub invariant_of-result-clause-counters_room : goal.invariant_of-result-clause-counters_room
+invariant_of-result-clause-counters_room c = c.in_ok-room.ensures.room.counters ∙ ap (λ (s : Shape). Some s.counters) (sym c.requires.desk.shape)
+
+pub invariant_of-result-clause-lapics_room : goal.invariant_of-result-clause-lapics_room
+invariant_of-result-clause-lapics_room c = c.in_ok-room.ensures.room.places ∙ ap (λ (s : Shape). s.cpus) (sym c.requires.desk.shape)
+
+pub invariant_of-result-clause-empty_handed : goal.invariant_of-result-clause-empty_handed
+invariant_of-result-clause-empty_handed c = λ p out. nothing_in c.in_ok-room.room.rig.parts _ c.in_ok-room.ensures.parts p
+
+pub invariant_of-result-clause-noted : goal.invariant_of-result-clause-noted
+invariant_of-result-clause-noted c = c.in_ok-room.ensures.noted _

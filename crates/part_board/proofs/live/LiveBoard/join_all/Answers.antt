@@ -18,8 +18,8 @@ join-requires-clause-books c =
     let each = subst (λ l. All (IsPassOf live) l) c.in-Some.ensures.items c.loop-pass.invariant.1 in
     (c.loop-pass.invariant.0.book, (All-head (IsPassOf live) c.in-Some.pass rest each).book)
 
-pub loop-pass-preserved-in-Some : goal.loop-pass-preserved-in-Some
-loop-pass-preserved-in-Some c =
+pub loop-pass-preserved : goal.loop-pass-preserved
+loop-pass-preserved c =
     let live = c.args.self.now in
     let pass = c.in-Some.pass in
     let rest = into_iter_items c.next.new.self in

@@ -1,0 +1,9 @@
+pub mod Copied
+pub mod OnHand
+pub mod Home
+pub mod Barred
+pub mod Entered
+pub mod Runs
+pub mod Ways
+pub mod Places
+pub mod Fetched

@@ -1,0 +1,7 @@
+pub mod Copies
+pub mod Limits
+pub mod Entered
+pub mod Turns
+pub mod Wants
+pub mod UnderWay
+pub mod Kept
