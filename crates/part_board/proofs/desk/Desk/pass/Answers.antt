@@ -42,16 +42,16 @@ returns-clause-pass c =
     }
 
 pub invariant_of-result-clause-registry_room : goal.invariant_of-result-clause-registry_room
-invariant_of-result-clause-registry_room c = c.in_ok-room.ensures.room.registry
+invariant_of-result-clause-registry_room c = c.in-Ok.ensures.room.registry
 
 pub invariant_of-result-clause-counters_room : goal.invariant_of-result-clause-counters_room
-invariant_of-result-clause-counters_room c = c.in_ok-room.ensures.room.counters ∙ ap (λ (s : Shape). Some s.counters) (sym c.requires.desk.shape)
+invariant_of-result-clause-counters_room c = c.in-Ok.ensures.room.counters ∙ ap (λ (s : Shape). Some s.counters) (sym c.requires.desk.shape)
 
 pub invariant_of-result-clause-lapics_room : goal.invariant_of-result-clause-lapics_room
-invariant_of-result-clause-lapics_room c = c.in_ok-room.ensures.room.places ∙ ap (λ (s : Shape). s.cpus) (sym c.requires.desk.shape)
+invariant_of-result-clause-lapics_room c = c.in-Ok.ensures.room.places ∙ ap (λ (s : Shape). s.cpus) (sym c.requires.desk.shape)
 
 pub invariant_of-result-clause-empty_handed : goal.invariant_of-result-clause-empty_handed
-invariant_of-result-clause-empty_handed c = λ p out. nothing_in c.in_ok-room.room.rig.parts _ c.in_ok-room.ensures.parts p
+invariant_of-result-clause-empty_handed c = λ p out. nothing_in c.in-Ok.room.rig.parts _ c.in-Ok.ensures.parts p
 
 pub invariant_of-result-clause-noted : goal.invariant_of-result-clause-noted
-invariant_of-result-clause-noted c = c.in_ok-room.ensures.noted _
+invariant_of-result-clause-noted c = c.in-Ok.ensures.noted _

@@ -1,4 +1,7 @@
-use Rattle.part_board.specs.Seen.{pass_seen, pass_view}
+use Rattle.std.proofs.Common.{◌≡◌, ◌∙◌, subst}
+use Rattle.irq_base.specs.declared.call.Caller.{Caller}
+use Rattle.turn_book.proofs.Lists.{prefix-trans}
+use Rattle.part_board.specs.Seen.{pass_seen, pass_view, entries_by}
 use Rattle.part_board.proofs.Calls.{entered_behind}
 use Rattle.part_board.proofs.Reached.{reached_in}
 use Rattle.part_board.proofs.live.LiveBoard.call.Goals as goal
@@ -32,3 +35,19 @@ returns-in-Ok-Err-clause-found g c =
     let first = pass_seen c.args.pass.now in
     reached_in c.args.self.now.shape c.args.pass.now.caller c.args.call.now first (pass_seen c.try_again.new.pass) (pass_view c.args.pass.now).found (pass_view c.try_again.new.pass).found c.in-Ok-Err.field-0 _ c.in-Ok-Err.field-0-is
     (c.in-Ok-Err.ensures.found c.args.pass.now.caller first (pass_view c.args.pass.now).found c.loop.invariant.3 c.loop.invariant.4 c.loop.invariant.7)
+
+pub loop-preserved : goal.loop-preserved
+loop-preserved g c =
+    let first = pass_seen c.args.pass.now in
+    let who = c.args.pass.now.caller in
+    let inv = c.loop.invariant in
+    let again = c.in-Err.ensures in (
+      tt,
+      tt,
+      again.pass,
+      again.caller ∙ inv.3,
+      prefix-trans first (pass_seen c.loop.pass) (pass_seen c.try_again.new.pass) inv.4 again.seen,
+      subst (λ (w : Caller). entries_by w (pass_seen c.try_again.new.pass) ≡ entries_by w (pass_seen c.loop.pass)) inv.3 again.learnt.own ∙ inv.5,
+      again.took who first (pass_view c.args.pass.now).took inv.3 inv.4 inv.6,
+      again.found who first (pass_view c.args.pass.now).found inv.3 inv.4 inv.7,
+    )

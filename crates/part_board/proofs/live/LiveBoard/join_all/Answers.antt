@@ -18,6 +18,21 @@ join-requires-clause-books c =
     let each = subst (λ l. All (IsPassOf live) l) c.in-Some.ensures.items c.loop-pass.invariant.1 in
     (c.loop-pass.invariant.0.book, (All-head (IsPassOf live) c.in-Some.pass rest each).book)
 
+pub loop-pass-preserved-in-Some : goal.loop-pass-preserved-in-Some
+loop-pass-preserved-in-Some c =
+    let live = c.args.self.now in
+    let pass = c.in-Some.pass in
+    let rest = into_iter_items c.next.new.self in
+    let each = subst (λ l. All (IsPassOf live) l) c.in-Some.ensures.items c.loop-pass.invariant.1 in
+    let v : Seen = c.loop-pass.desk.pen.seat.me.0 in
+    let w : Seen = c.join.new.pen.seat.me.0 in
+    let ended = c.join.ensures.list ∙ ap (λ o. with_end caller_of o pass.pen.seat.me.0.seen v.ended) pass.named in (
+      record { book = c.join.ensures.book ∙ c.loop-pass.invariant.0.book; shape = c.loop-pass.invariant.0.shape },
+      All-tail (IsPassOf live) pass rest each,
+      (let many = ap length c.in-Some.ensures.items in let here = c.loop-pass.invariant.2 in let len = c.in-Some.ensures.len in omega (arith, many, here, len)),
+      λ u joins. c.loop-pass.invariant.3 u (subst (λ l. JoinsAll v l u) (sym c.in-Some.ensures.items) (joins_more v w u pass rest c.join.ensures.seen c.join.ensures.learnt ended c.join.ensures.place.3 joins)),
+    )
+
 pub loop-pass-preserved : goal.loop-pass-preserved
 loop-pass-preserved c =
     let live = c.args.self.now in
