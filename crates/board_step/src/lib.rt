@@ -39,6 +39,7 @@ pub use laws::{
     always_answers, answers_once, board_after_is_reached, calls_steadily, leads_to_one,
     refused_rightly, refuses_first, steps_are_followed, steps_tell_few, words_stay,
 };
+pub use limits::{barred_by, would_publish_in};
 pub use on_board::OnBoard;
 pub use open::OpenError;
 pub use publications::{

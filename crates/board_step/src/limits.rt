@@ -13,8 +13,8 @@ use board_calls::{assign_refusal, refused_by_range, unwatch_refusal, watch_refus
 use board_raise::{Parts, RegistryPart};
 use irq_base::{Call, Shape, Spent};
 
-// Whether the call is a publication, on the board of these parts.
-pub(crate) fn would_publish_in(parts: &Parts, shape: &Shape, call: &Call) -> bool
+/// Whether the call would be a publication, on a board of this registry; `false` where the registry is not in hand.
+pub fn would_publish_in(parts: &Parts, shape: &Shape, call: &Call) -> bool
     ensures { (b : Whole) → Some b.registry ≡ (parts_of parts.now).registry → b.shape ≡ shape.now → result ≡ would_publish b call.now }
 {
     match &parts.registry {
@@ -68,12 +68,7 @@ fn has_irqfd(registry: &RegistryPart, trigger: u16, gsi: u16) -> bool
 
 /// Which limit bars a call, after so many calls and so many publications: that of calls, or, where the call is a publication,
 /// that of publications.
-pub(crate) fn barred_by(
-    shape: &Shape,
-    calls: u64,
-    publications: u32,
-    publishes: bool,
-) -> Option<Spent>
+pub fn barred_by(shape: &Shape, calls: u64, publications: u32, publishes: bool) -> Option<Spent>
     ensures { result ≡ spent_by shape.now calls publications publishes }
 {
     if calls == shape.calls {

@@ -20,7 +20,7 @@ impl LiveBoard {
     /// `Ok(Ok(done))`: the call has its entry, with the reply of `done` and the events that are handed out, at the place
     /// `done.at` of the history. `Ok(Err(spent))`: that limit bars the call where the pass now stands. `Err` tells why the attempt
     /// gave way: `Busy`, where it found the turn of that part taken; `Moved` and `Front`, where its one exchange found another
-    /// front than its last look before. In these two cases there is no entry, no event is handed out, and no part changes.
+    /// front than its last look before. In all but the first case there is no entry, no event is handed out, and no part changes.
     ///
     /// It takes the turns of parts that the call reaches, and of no others, and holds none afterwards. It takes no memory.
     pub fn try_call(
