@@ -7,11 +7,13 @@ use Rattle.std.specs.declared.option.Option.{Option}
 use Rattle.irq_base.specs.Faces.{PlacedEntry}
 use Rattle.irq_base.specs.declared.face.Face.{Ghosts}
 use Rattle.irq_base.specs.declared.reply.Spent.{Spent}
+use Rattle.script_text.specs.Asks.{actors_of}
 use Rattle.script_text.specs.Scripts.{Script}
 use Rattle.actors.specs.Kept.{placed_of, placed_in}
 use Rattle.actors.specs.Logged.{IsLogged}
 use Rattle.actors.specs.Results.{first_of, first_in, entries_of_all, HavePlayed}
 use Rattle.actors.specs.Runs.{all_of, AreOrdered, HaveRun, AreGathered, first_stop}
+use Rattle.actors.proofs.Shares.{own_of}
 use Rattle.actors.specs.declared.playing.Played.{Played}
 use Rattle.actors.specs.declared.running.RunLog.{RunLog}
 
@@ -58,14 +60,21 @@ module _ {F : Type 0} (face : Ghosts F) (s : Script) where
   stops_of [] (p ∷ ps) h = absurd h
   stops_of (f ∷ fs) [] h = absurd h
 
-  pub gathered_of : (fs : List F) (ps : List (Played F)) (log : RunLog F) → HavePlayed face s fs ps → IsLogged ps log → AreGathered face s fs log.faces.items log.history
-  gathered_of fs ps log h logged = record {
+  pub gathered_of : (fs : List F) (ps : List (Played F)) (log : RunLog F) → HavePlayed face s fs ps → IsLogged ps log → map face.who fs ≡ actors_of s.lines → AreGathered face s fs log.faces.items log.history
+  gathered_of fs ps log h logged callers = record {
     answered = answered_of fs ps h;
-    ran = subst (λ l. HaveRun face s fs l (answered_of fs ps h)) (sym logged.faces) (ran_of fs ps h);
+    ran = ran;
     ordered = logged.ordered;
-    order = subst (λ l. AreOrdered l logged.ordered) (all_kept fs ps h logged.kept) logged.order;
+    order = order;
+    own = own_of face s fs log.faces.items (answered_of fs ps h) logged.ordered ran order callers;
     listed = logged.listed;
   }
+    where
+      ran : HaveRun face s fs log.faces.items (answered_of fs ps h)
+      ran = subst (λ l. HaveRun face s fs l (answered_of fs ps h)) (sym logged.faces) (ran_of fs ps h)
+
+      order : AreOrdered (all_of (answered_of fs ps h)) logged.ordered
+      order = subst (λ l. AreOrdered l logged.ordered) (all_kept fs ps h logged.kept) logged.order
 
   pub spent_of_log : (fs : List F) (ps : List (Played F)) (log : RunLog F) → HavePlayed face s fs ps → IsLogged ps log → log.spent ≡ first_stop face log.faces.items
   spent_of_log fs ps log h logged = logged.spent ∙ stops_of fs ps h ∙ ap (first_stop face) (sym logged.faces)

@@ -1,12 +1,12 @@
 -- An actor among its calls.
-use Rattle.std.proofs.Common.{◌≡◌, ℕ, ◌+◌, ◌<◌, ◌≤◌, Bool, true, false, true≢false, ◌&&◌, List, [], ◌∷◌, ◌++◌, append_assoc, map, is_some, Some, None, refl, sym, ap, ◌∙◌, subst, arith}
-use Rattle.std.proofs.lemmas.List.{append-nil, map-append}
+use Rattle.std.proofs.Common.{◌≡◌, ℕ, ◌+◌, ◌<◌, ◌≤◌, Bool, true, false, true≢false, ◌&&◌, List, [], ◌∷◌, ◌++◌, append_assoc, length, map, is_some, Some, None, refl, sym, ap, ◌∙◌, subst, arith}
+use Rattle.std.proofs.lemmas.List.{append-nil, map-append, length-append}
 use Rattle.std.specs.Prelude.{Ok, Err, if◌then◌else◌, nat_eq, nat_lt, ◌-◌}
 use Rattle.std.proofs.lemmas.Bool.Decides.{nat_tests}
 use Rattle.std.specs.declared.option.Option.{Option}
 use Rattle.std.proofs.lemmas.List.Sums.{fold-append}
 use Rattle.irq_base.specs.Callers.{is_allowed, is_there}
-use Rattle.irq_base.specs.Faces.{PlacedEntry, WhereTold, IsPlaced, StopsTell, own_after}
+use Rattle.irq_base.specs.Faces.{PlacedEntry, WhereTold, IsPlaced, StopsTell, own_after, LeftFalls}
 use Rattle.irq_base.specs.declared.call.Call.{Call}
 use Rattle.irq_base.specs.declared.call.Call.TheVariants.{Inta}
 use Rattle.irq_base.specs.declared.call.Caller.TheVariants.{Device, Cpu}
@@ -82,6 +82,7 @@ module _ {F : Type 0} (face : Ghosts F) (s : Script) where
     pub home : face.home now ≡ face.home before
     pub stops : face.stops now ≡ 0
     pub own : WhereTold (face.own before) (face.own now) (λ had has. has ≡ had ++ answered)
+    pub fewer : WhereTold (face.left before) (face.left now) (λ had has. has + length answered ≡ had)
     pub asked : AskedInTurn s (face.who before) [] answered
     pub places : RiseWithin (face.floor before) (face.floor now) answered
     pub followed : HasFollowed (face.who before) s.lines (replies_in answered) progress
@@ -97,6 +98,7 @@ module _ {F : Type 0} (face : Ghosts F) (s : Script) where
     home = refl;
     stops = none;
     own = told_same (face.own f) (λ had has. has ≡ had ++ []) (λ had. sym (append-nil had));
+    fewer = told_same (face.left f) (λ had has. has + length {A = PlacedEntry} [] ≡ had) (λ had. omega arith);
     asked = tt;
     places = omega arith;
     followed = follows;
@@ -132,21 +134,27 @@ module _ {F : Type 0} (face : Ghosts F) (s : Script) where
         (λ x y z first second. second ∙ (λ i. own_after (plays.caller i) call events (Ok done) (first i)) ∙ append_assoc x plays.answered (told ∷ []))
         plays.own own
 
+    fewer : WhereTold (face.left now) (face.left next) (LeftFalls (Ok done)) → WhereTold (face.left before) (face.left next) (λ had has. has + length (plays.answered ++ told ∷ []) ≡ had)
+    fewer falls = told_then (face.left before) (face.left now) (face.left next) (λ had has. has + length plays.answered ≡ had) (LeftFalls (Ok done)) (λ had has. has + length (plays.answered ++ told ∷ []) ≡ had)
+        (λ x y z first second. let long = length-append plays.answered (told ∷ []) in omega (arith, first, second, long)) plays.fewer falls
+
     pub answer : face.who next ≡ face.who now → face.shape next ≡ face.shape now → face.home next ≡ face.home now
         → IsPlaced (Ok done) (face.floor now) (face.floor next) → StopsTell (Ok done) (face.stops now) (face.stops next) (face.last now) (face.last next)
         → WhereTold (face.own now) (face.own next) (λ had has. has ≡ own_after (face.who now) call events (Ok done) had)
+        → WhereTold (face.left now) (face.left next) (LeftFalls (Ok done))
         → caller ≡ face.who before
         → (more.lost ≡ false → kept.lost ≡ false)
         → (more.lost ≡ false → placed_in more.entries.items ≡ own_after caller call events (Ok done) (placed_in kept.entries.items))
         → ((rs : List Reply) → HasFollowed (face.who before) s.lines rs progress → HasFollowed (face.who before) s.lines (rs ++ done.reply ∷ []) later)
         → Plays before next more later (left - 1)
-    answer who shape home place stops own mine were kept_more follows = record {
+    answer who shape home place stops own falls mine were kept_more follows = record {
       answered = plays.answered ++ told ∷ [];
       caller = who ∙ plays.caller;
       shape = shape ∙ plays.shape;
       home = home ∙ plays.home;
       stops = stops.0 ∙ plays.stops;
       own = own_entry own;
+      fewer = fewer falls;
       asked = asked_more s (face.who before) [] plays.answered told plays.asked refl (sym is_next);
       places = rise_more (face.floor before) (face.floor now) (face.floor next) plays.answered told plays.places place.0 place.1;
       followed = subst (λ rs. HasFollowed (face.who before) s.lines rs later) (sym replies) (follows (replies_in plays.answered) plays.followed);
@@ -160,14 +168,16 @@ module _ {F : Type 0} (face : Ghosts F) (s : Script) where
     pub barred : (spent : Spent) → face.who next ≡ face.who now → face.shape next ≡ face.shape now → face.home next ≡ face.home now
         → IsPlaced (Err spent) (face.floor now) (face.floor next) → StopsTell (Err spent) (face.stops now) (face.stops next) (face.last now) (face.last next)
         → WhereTold (face.own now) (face.own next) (λ had has. has ≡ own_after (face.who now) call events (Err spent) had)
+        → WhereTold (face.left now) (face.left next) (LeftFalls (Err spent))
         → face.barred next call → HasPlayed face s before next kept (Some spent)
-    barred spent who shape home place stops own bars = record {
+    barred spent who shape home place stops own falls bars = record {
       answered = plays.answered;
       ran = record {
         caller = who ∙ plays.caller;
         shape = shape ∙ plays.shape;
         home = home ∙ plays.home;
         own = told_then (face.own before) (face.own now) (face.own next) (λ had has. has ≡ had ++ plays.answered) (λ had has. has ≡ own_after (face.who now) call events (Err spent) had) (λ had has. has ≡ had ++ plays.answered) (λ x y z first second. second ∙ first) plays.own own;
+        left = told_then (face.left before) (face.left now) (face.left next) (λ had has. has + length plays.answered ≡ had) (LeftFalls (Err spent)) (λ had has. has + length plays.answered ≡ had) (λ x y z first second. omega (arith, first, second)) plays.fewer falls;
         asked = plays.asked;
         places = rise_higher (face.floor before) (face.floor now) (face.floor next) plays.answered plays.places place;
         all = λ none. absurd (let up = some_stop in omega (arith, up, none));
@@ -199,6 +209,7 @@ module _ {F : Type 0} (face : Ghosts F) (s : Script) where
       shape = plays.shape;
       home = plays.home;
       own = plays.own;
+      left = plays.fewer;
       asked = plays.asked;
       places = plays.places;
       all = λ _. sym none;

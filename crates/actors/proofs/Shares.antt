@@ -19,7 +19,7 @@ use Rattle.script_merging.proofs.Callers.{callers_same, caller_itself, callers_a
 use Rattle.script_merging.proofs.Merged.{no_replies, own_reply, others_reply}
 use Rattle.script_merging.proofs.Actors.{actors-distinct, of-actors}
 use Rattle.actors.specs.Turns.{entries_in, replies_in, AskedInTurn, HasRun}
-use Rattle.actors.specs.Runs.{all_of, AreOrdered, HaveRun, AreGathered, first_stop, entries_by, Gains, AreBack}
+use Rattle.actors.specs.Runs.{all_of, AreOrdered, HaveRun, AreOwn, AreGathered, first_stop, entries_by, Gains, AreBack}
 use Rattle.actors.proofs.Orders.{RiseFrom, rise_of, rise_lower, rise_within, filtered_one}
 use Rattle.actors.proofs.Plays.{told_weaker}
 
@@ -119,21 +119,15 @@ module _ {F : Type 0} (face : Ghosts F) (s : Script) where
   picked who Q none (f ∷ fs) [] lists ran apart each = absurd ran
   picked who Q none (f ∷ fs) (g ∷ gs) [] ran apart each = absurd ran
 
-  -- the calls of each actor are its own among these
-  abbrev OwnIn : List PlacedEntry → List F → List (List PlacedEntry) → Type 0
-  OwnIn all [] [] = Unit {0}
-  OwnIn all (f ∷ fs) (ps ∷ lists) = (filter (is_by (face.who f)) all ≡ ps) × OwnIn all fs lists
-  OwnIn all _ _ = ⊥
-
   widen : (who : Caller) (front rest : List PlacedEntry) (fs : List F) (lists : List (List PlacedEntry)) → ((other : Caller) → same_caller who other ≡ false → filter (is_by other) front ≡ [])
-      → Apart who fs → OwnIn rest fs lists → OwnIn (front ++ rest) fs lists
+      → Apart who fs → AreOwn face rest fs lists → AreOwn face (front ++ rest) fs lists
   widen who front rest [] [] none apart own = tt
   widen who front rest (f ∷ fs) (ps ∷ lists) none (other, apart) (own, more) =
       (filter-append (is_by (face.who f)) front rest ∙ (λ i. none (face.who f) other i ++ own i), widen who front rest fs lists none apart more)
   widen who front rest [] (ps ∷ lists) none apart own = absurd own
   widen who front rest (f ∷ fs) [] none apart own = absurd own
 
-  own_all : (fs gs : List F) (lists : List (List PlacedEntry)) → HaveRun face s fs gs lists → AllApart fs → OwnIn (all_of lists) fs lists
+  own_all : (fs gs : List F) (lists : List (List PlacedEntry)) → HaveRun face s fs gs lists → AllApart fs → AreOwn face (all_of lists) fs lists
   unfolding IsDistinct
   own_all [] [] [] ran apart = tt
   own_all (f ∷ fs) (g ∷ gs) (ps ∷ lists) (run, ran) (other, apart) = (
@@ -147,7 +141,7 @@ module _ {F : Type 0} (face : Ghosts F) (s : Script) where
   own_all (f ∷ fs) [] lists ran apart = absurd ran
   own_all (f ∷ fs) (g ∷ gs) [] ran apart = absurd ran
 
-  own_ordered : (all ordered : List PlacedEntry) (fs gs : List F) (lists : List (List PlacedEntry)) → AreOrdered all ordered → HaveRun face s fs gs lists → OwnIn all fs lists → OwnIn ordered fs lists
+  own_ordered : (all ordered : List PlacedEntry) (fs gs : List F) (lists : List (List PlacedEntry)) → AreOrdered all ordered → HaveRun face s fs gs lists → AreOwn face all fs lists → AreOwn face ordered fs lists
   own_ordered all ordered [] [] [] order ran own = tt
   own_ordered all ordered (f ∷ fs) (g ∷ gs) (ps ∷ lists) order (run, ran) (own, more) = (
     filtered_one (is_by (face.who f)) 0 (face.floor f) ordered all ps (rise_of 0 ordered order.rising (λ d some. omega arith)) order.same own (rise_within (face.floor f) (face.floor g) ps run.places),
@@ -163,7 +157,7 @@ module _ {F : Type 0} (face : Ghosts F) (s : Script) where
   next_is : (who : Caller) (history : List Entry) (ordered ps : List PlacedEntry) → history ≡ entries_in ordered → filter (is_by who) ordered ≡ ps → next_of s history who ≡ next_ask who s.lines (replies_in ps)
   next_is who history ordered ps is own = ap (next_ask who s.lines) (ap (replies_of who) is ∙ replies_are s who ordered ∙ ap replies_in own)
 
-  backs : (history : List Entry) (ordered : List PlacedEntry) (fs gs : List F) (lists : List (List PlacedEntry)) → history ≡ entries_in ordered → HaveRun face s fs gs lists → OwnIn ordered fs lists → AreBack face s history fs gs
+  backs : (history : List Entry) (ordered : List PlacedEntry) (fs gs : List F) (lists : List (List PlacedEntry)) → history ≡ entries_in ordered → HaveRun face s fs gs lists → AreOwn face ordered fs lists → AreBack face s history fs gs
   backs history ordered [] [] [] is ran own = tt
   backs history ordered (f ∷ fs) (g ∷ gs) (ps ∷ lists) is (run, ran) (own, more) = (
     record {
@@ -211,13 +205,18 @@ module _ {F : Type 0} (face : Ghosts F) (s : Script) where
 
   -- ---- what a run ensures
 
+  all_apart : (fs : List F) → map face.who fs ≡ actors_of s.lines → AllApart fs
+  all_apart fs callers = subst (IsDistinct same_caller) (sym callers) (actors-distinct s.lines)
+
+  pub own_of : (fs gs : List F) (lists : List (List PlacedEntry)) (ordered : List PlacedEntry) → HaveRun face s fs gs lists → AreOrdered (all_of lists) ordered → map face.who fs ≡ actors_of s.lines → AreOwn face ordered fs lists
+  own_of fs gs lists ordered ran order callers = own_ordered (all_of lists) ordered fs gs lists order ran (own_all fs gs lists ran (all_apart fs callers))
+
   module _ (fs gs : List F) (history : List Entry) (gathered : AreGathered face s fs gs history) (callers : map face.who fs ≡ actors_of s.lines) where
     apart : AllApart fs
-    apart = subst (IsDistinct same_caller) (sym callers) (actors-distinct s.lines)
+    apart = all_apart fs callers
 
     pub back_of : AreBack face s history fs gs
-    back_of = backs history gathered.ordered fs gs gathered.answered gathered.listed gathered.ran
-        (own_ordered (all_of gathered.answered) gathered.ordered fs gs gathered.answered gathered.order gathered.ran (own_all fs gs gathered.answered gathered.ran apart))
+    back_of = backs history gathered.ordered fs gs gathered.answered gathered.listed gathered.ran gathered.own
 
     pub merge_of : Merges s [] history
     merge_of = subst (Merges s []) (sym gathered.listed) (merges s [] gathered.ordered (λ who.

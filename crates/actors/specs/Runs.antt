@@ -28,13 +28,16 @@ pub record AreOrdered (all ordered : List PlacedEntry) : Type 0 where
   pub rising : IsNonDecreasingBy (λ (p : PlacedEntry). p.at) ordered
   pub same : (at : ℕ) → at_place at ordered ≡ at_place at all
 
--- ---- the entries of one actor
+-- ---- the calls of one actor
 
--- the entries of one caller in a history
+-- the calls of one caller among those of all, and the entries of one caller in a history
+abbrev pub calls_by : Caller → List PlacedEntry → List PlacedEntry
+calls_by who ps = filter (λ (p : PlacedEntry). same_caller p.entry.caller who) ps
+
 abbrev pub entries_by : Caller → List Entry → List Entry
 entries_by who history = filter (λ (e : Entry). same_caller e.caller who) history
 
--- the calls that were gained are just the caller's entries of the history, each with the place that was answered
+-- the calls that were gained have just the caller's entries of the history
 pub record Gains (who : Caller) (history : List Entry) (had has : List PlacedEntry) : Type 0 where
   pub gained : List PlacedEntry
   pub behind : has ≡ had ++ gained
@@ -49,12 +52,19 @@ module _ {F : Type 0} (face : Ghosts F) where
   HaveRun s (f ∷ fs) (g ∷ gs) (ps ∷ more) = HasRun face s f g ps × HaveRun s fs gs more
   HaveRun s _ _ _ = ⊥
 
+  -- the list of each actor has just the calls of its caller among these, each at its place
+  abbrev pub AreOwn : List PlacedEntry → List F → List (List PlacedEntry) → Type 0
+  AreOwn ordered [] [] = Unit {0}
+  AreOwn ordered (f ∷ fs) (ps ∷ more) = (calls_by (face.who f) ordered ≡ ps) × AreOwn ordered fs more
+  AreOwn ordered _ _ = ⊥
+
   -- the faces of all actors answered these calls, one list an actor, and the history is all of them in the order of their places
   pub record AreGathered (s : Script) (before after : List F) (history : List Entry) : Type 0 where
     pub answered : List (List PlacedEntry)
     pub ran : HaveRun s before after answered
     pub ordered : List PlacedEntry
     pub order : AreOrdered (all_of answered) ordered
+    pub own : AreOwn ordered before answered
     pub listed : history ≡ entries_in ordered
 
   -- the limit of the first face at which one barred a call, in the order of actors

@@ -1,5 +1,5 @@
 -- The calls of one actor, and what its face tells of them (this board's own rule).
-use Rattle.std.specs.Prelude.{◌≡◌, ℕ, ◌+◌, ◌<◌, ◌≤◌, true, List, [], ◌∷◌, ◌++◌, map, is_some, Some, None}
+use Rattle.std.specs.Prelude.{◌≡◌, ℕ, ◌+◌, ◌<◌, ◌≤◌, true, List, [], ◌∷◌, ◌++◌, length, map, is_some, Some, None}
 use Rattle.irq_base.specs.Faces.{PlacedEntry, WhereTold}
 use Rattle.irq_base.specs.declared.call.Call.{Call}
 use Rattle.irq_base.specs.declared.call.Caller.{Caller}
@@ -48,6 +48,8 @@ module _ {F : Type 0} (face : Ghosts F) where
     pub home : face.home after ≡ face.home before
     -- where it tells the entries of its caller, it gained just these
     pub own : WhereTold (face.own before) (face.own after) (λ had has. has ≡ had ++ answered)
+    -- where it tells how many calls are left to it, they are fewer by just these
+    pub left : WhereTold (face.left before) (face.left after) (λ had has. has + length answered ≡ had)
     -- they are what the actor asks, at places that rise
     pub asked : AskedInTurn s (face.who before) [] answered
     pub places : RiseWithin (face.floor before) (face.floor after) answered
