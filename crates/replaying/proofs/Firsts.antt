@@ -5,7 +5,7 @@ use Rattle.irq_base.specs.declared.reply.Spent.{Spent}
 use Rattle.script_text.specs.declared.task.ActorLine.{ActorLine}
 use Rattle.replaying.specs.declared.stops.Stop.{Stop}
 use Rattle.replaying.specs.FileOrder.{stop_of, first_stop}
-use Rattle.replaying.proofs.RowCopies.{drop-at}
+use Rattle.entry_copies.proofs.RowCopies.{drop-at}
 
 pub first-next : (lines : List ActorLine) (stops : List Stop) (k : ℕ) (line : ActorLine) → slice_get lines k ≡ Some line → stop_of line.caller stops ≡ None
     → first_stop (drop (k + 1) lines) stops ≡ first_stop (drop k lines) stops

@@ -19,7 +19,7 @@ use Rattle.replaying.specs.declared.stops.Stop.{Stop}
 use Rattle.replaying.specs.FileOrder.{stop_of, with_stop, Asked, LineAsked, PassedOver, LinesAsked, first_stop}
 use Rattle.replaying.specs.Played.{Played, LinesPlayed}
 use Rattle.replaying.specs.Replays.{Replays}
-use Rattle.replaying.proofs.RowCopies.{drop-at}
+use Rattle.entry_copies.proofs.RowCopies.{drop-at}
 use Rattle.replaying.proofs.Ordered.{replays}
 
 -- a line is taken, and those behind it
