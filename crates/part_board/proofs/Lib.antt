@@ -8,3 +8,5 @@ pub mod Calls
 pub mod Routes
 pub mod Faces
 pub mod Reached
+pub mod DueSlots
+pub mod Watches

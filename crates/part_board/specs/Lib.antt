@@ -6,3 +6,4 @@ pub mod Joining
 pub mod Tried
 pub mod Routed
 pub mod Facing
+pub mod DueNow

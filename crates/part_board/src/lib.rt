@@ -5,7 +5,8 @@
 //! a pass has seen to another pass, or to the desk.
 //!
 //! Reading order of the definitions: `Callers` (sets of callers), `Seen` (what a pass, a note and a desk know), `Tried` (what an
-//! attempt of a call comes to), `Routed` (where a GSI goes), `Facing` (what a face tells), `Closing` (how a board ends).
+//! attempt of a call comes to), `Routed` (where a GSI goes), `DueNow` (what a processor would be given), `Facing` (what a face
+//! tells), `Closing` (how a board ends).
 #![tactic(auto)]
 
 mod callers;
@@ -13,6 +14,7 @@ mod calling;
 mod closed;
 mod closing;
 mod desk;
+mod dues;
 mod error;
 mod gathering;
 mod learning;
@@ -23,6 +25,7 @@ mod opening;
 mod pass;
 mod routing;
 mod trying;
+mod watching;
 
 pub use closed::{Closed, Missing};
 pub use desk::Desk;
@@ -33,3 +36,4 @@ pub use on_live::OnLive;
 pub use part_attempt::NotNow;
 pub use pass::Pass;
 pub use routing::Moved;
+pub use watching::Busy;
