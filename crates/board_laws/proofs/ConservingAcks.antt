@@ -1,15 +1,6 @@
 -- What an outcome takes off the pending ticks, and which injections its events may tell; acknowledges take a tick each.
-use Rattle.board_step.proofs.Basics.{◌≡◌, ℕ, ◌+◌, ◌-◌, Bool, true, false, ◌&&◌, ◌||◌, nat_eq, if◌then◌else◌, List, [], ◌∷◌, ◌++◌, refl, sym, ap, subst, ◌∙◌, arith, Some, None, Option}
-use Rattle.board_step.proofs.Types.parts
-use Rattle.board_step.proofs.Types.{Event, Acked, Rang, Injected, Pin, TickSource, Part, Shape, Status, TickState}
-use Rattle.board_step.proofs.Chips.{ack_injects, tick_acked, tick_injected, is_ignored}
-use Rattle.board_step.proofs.Plans.{Routing, Board, with_part, ValueOf, is_same, TargetAnswer, About, injected, Plan, done, put, change, ◌>>=◌, ◌>>◌, Wishes, Outcome, run, then_run}
-use Rattle.board_step.proofs.Calls.{inject, inject_tick, inject_next, acknowledge_tick, tell_concerned, end_level, end_tick, acknowledge, acknowledge_each}
-use Rattle.board_model.proofs.Lens.{part_of-with_other}
-use Rattle.board_model.proofs.Sequence.{run-bind}
-use Rattle.board_laws.specs.Ticks.{is_ack_of, acks_in}
+use Rattle.board_laws.proofs.Basics.{Walk, Holds, of_relation, ended, ◌≡◌, ℕ, ◌+◌, ◌-◌, Bool, true, false, ◌&&◌, ◌||◌, nat_eq, if◌then◌else◌, List, [], ◌∷◌, ◌++◌, refl, sym, ap, subst, ◌∙◌, arith, Some, None, Option, Event, Acked, Rang, Injected, Pin, TickSource, Part, Shape, Status, TickState, ack_injects, tick_acked, tick_injected, is_ignored, Routing, Board, with_part, ValueOf, is_same, TargetAnswer, About, injected, Plan, done, put, change, ◌>>=◌, ◌>>◌, Wishes, Outcome, run, then_run, inject, inject_tick, inject_next, acknowledge_tick, tell_concerned, end_level, end_tick, acknowledge, acknowledge_each, part_of-with_other, run-bind, is_ack_of, acks_in}
 use Rattle.board_laws.proofs.ConservingOnce.{injects_before, inject_injects}
-use Rattle.board_step.proofs.Walk.{Walk, Holds, of_relation, ended}
 use Rattle.board_laws.proofs.ConservingQuiet.{is_quiet, shows_quietly, AreQuiet, still, inject_quiet, tell_quiet, level_quiet}
 
 -- ---- which events may come
@@ -178,12 +169,12 @@ module _ (tick : ℕ) (rings : Bool) (may : ℕ → Bool) where
       same left was acks e = omega (arith, e)
 
   -- the tick state is written, with so many ticks taken off
-  pub put_conserves : {A : Type 0} (taken : ℕ) (m : Plan A) (b : Board) (v : TickState) (ws : Wishes) → v.reinjects ≡ b.tick.reinjects → (b.tick.reinjects ≡ false → v ≡ b.tick) → (b.tick.reinjects ≡ true → v.pending ≡ b.tick.pending - taken) → Conserving tick rings may 0 m → Conserves tick rings may taken b (run (put parts.Tick v m) b ws)
+  pub put_conserves : {A : Type 0} (taken : ℕ) (m : Plan A) (b : Board) (v : TickState) (ws : Wishes) → v.reinjects ≡ b.tick.reinjects → (b.tick.reinjects ≡ false → v ≡ b.tick) → (b.tick.reinjects ≡ true → v.pending ≡ b.tick.pending - taken) → Conserving tick rings may 0 m → Conserves tick rings may taken b (run (put Part.Tick v m) b ws)
   put_conserves taken m b v ws same still less later =
-      let r = later (with_part b parts.Tick v) ws in
+      let r = later (with_part b Part.Tick v) ws in
       record {
         reinjects = r.reinjects ∙ same;
-        pending = λ on. sum (run m (with_part b parts.Tick v) ws).board.tick.pending v.pending b.tick.pending (acks_in tick (run m (with_part b parts.Tick v) ws).log.events) (r.pending (same ∙ on)) (less on);
+        pending = λ on. sum (run m (with_part b Part.Tick v) ws).board.tick.pending v.pending b.tick.pending (acks_in tick (run m (with_part b Part.Tick v) ws).log.events) (r.pending (same ∙ on)) (less on);
         stays = λ off. r.stays (same ∙ off) ∙ still off;
         allowed = r.allowed;
         singly = r.singly;
@@ -193,9 +184,9 @@ module _ (tick : ℕ) (rings : Bool) (may : ℕ → Bool) where
       sum last mid was acks e f = omega (arith, e, f)
 
 -- a write of another part
-pub puts_conserve : {A : Type 0} (tick : ℕ) (rings : Bool) (may : ℕ → Bool) (p : Part) (v : ValueOf p) (b : Board) (o : Outcome A) → is_same p parts.Tick ≡ false → Conserves tick rings may 0 (with_part b p v) o → Conserves tick rings may 0 b o
+pub puts_conserve : {A : Type 0} (tick : ℕ) (rings : Bool) (may : ℕ → Bool) (p : Part) (v : ValueOf p) (b : Board) (o : Outcome A) → is_same p Part.Tick ≡ false → Conserves tick rings may 0 (with_part b p v) o → Conserves tick rings may 0 b o
 puts_conserve tick rings may p v b o other r =
-    let same = part_of-with_other b p parts.Tick v other in
+    let same = part_of-with_other b p Part.Tick v other in
     record {
       reinjects = r.reinjects ∙ ap (λ (s : TickState). s.reinjects) same;
       pending = λ on. r.pending (ap (λ (s : TickState). s.reinjects) same ∙ on) ∙ ap (λ (s : TickState). s.pending - (0 + acks_in tick o.log.events)) same;
@@ -209,7 +200,7 @@ abbrev pub conserving : ℕ → Bool → (ℕ → Bool) → Walk
 conserving tick rings may = of_relation (record {
   Good = λ b o. Conserves tick rings may 0 b o;
   Fit = λ b. Unit {0};
-  May = λ b p v. is_same p parts.Tick ≡ false;
+  May = λ b p v. is_same p Part.Tick ≡ false;
   starts = λ a b ws fit. quiet_conserving tick rings may (done a) (ended (still may) a) b ws;
   puts = λ p v b o fit other h. puts_conserve tick rings may p v b o other h;
   fits = λ p v b fit other. tt;
@@ -237,7 +228,7 @@ module _ (routing : Routing) (shape : Shape) (rings : Bool) where
 
   pub tick_conserving : (may : ℕ → Bool) (about : Option TargetAnswer → About) → ((pic : Option TargetAnswer) → shows_quietly may (about pic) ≡ true) → Conserving shape.tick rings may 0 (inject_tick routing shape about)
   tick_conserving may about there =
-      bind_conserving shape.tick rings may 0 (λ status. change parts.Tick (λ tick. tick_injected tick status)) (inject shape.cpus (routing.targets shape.tick) TickSource about)
+      bind_conserving shape.tick rings may 0 (λ status. change Part.Tick (λ tick. tick_injected tick status)) (inject shape.cpus (routing.targets shape.tick) TickSource about)
       (quiet_conserving shape.tick rings may (inject shape.cpus (routing.targets shape.tick) TickSource about) (inject_quiet may shape.cpus (routing.targets shape.tick) TickSource about there))
       (λ status b ws. let same = tick_injected_same b.tick status in
       put_conserves shape.tick rings may 0 (done tt) b (tick_injected b.tick status) ws same.0 (tick_injected_stays b.tick status) (λ _. none same.1) (nothing_conserving shape.tick rings may))
@@ -274,7 +265,7 @@ module _ (routing : Routing) (shape : Shape) (rings : Bool) where
 
   inject_singly : (may : ℕ → Bool) → DueSingly may true (inject_tick routing shape (λ pic. injected shape.tick pic))
   inject_singly may = λ b ws.
-      let one = injects_before shape.tick (λ status. change parts.Tick (λ tick. tick_injected tick status)) (inject shape.cpus (routing.targets shape.tick) TickSource (λ pic. injected shape.tick pic))
+      let one = injects_before shape.tick (λ status. change Part.Tick (λ tick. tick_injected tick status)) (inject shape.cpus (routing.targets shape.tick) TickSource (λ pic. injected shape.tick pic))
       (inject_injects shape.tick shape.cpus (routing.targets shape.tick) TickSource) (λ status b ws. refl) b ws in
       subst (λ (events : List Event). Singly shape.tick may true events) (sym one.1) (or_right (may shape.tick) (nat_eq shape.tick shape.tick) (same shape.tick), λ _. tt)
     where
@@ -288,7 +279,7 @@ module _ (routing : Routing) (shape : Shape) (rings : Bool) where
   end_tick_singly : (may : ℕ → Bool) (pin : Pin) (gsi : Option ℕ) → DueSingly may (due_after shape.tick false (Acked pin gsi)) (end_tick routing shape gsi)
   end_tick_singly may pin None = λ b ws. tt
   end_tick_singly may pin (Some gsi) = elim (nat_eq gsi shape.tick) as (λ t. DueSingly may t (if t then acknowledge_tick routing shape else done tt)) [
-    | true ↦ λ b ws. next_singly may (ack_injects b.tick) (with_part b parts.Tick (tick_acked b.tick)) ws
+    | true ↦ λ b ws. next_singly may (ack_injects b.tick) (with_part b Part.Tick (tick_acked b.tick)) ws
     | false ↦ λ b ws. tt
   ]
 

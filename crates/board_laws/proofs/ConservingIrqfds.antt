@@ -1,16 +1,5 @@
 -- An irqfd that is made injects at most once, and one that is rung once.
-use Rattle.board_step.proofs.Basics.{◌≡◌, ℕ, Bool, true, false, ◌⊎◌, inl, inr, nat_lt, List, ◌∷◌, refl, sym, ap, subst, Some, None, Contains, Option}
-use Rattle.board_step.proofs.Types.calls
-use Rattle.board_step.proofs.Types.parts
-use Rattle.board_step.proofs.Types.{first_of, Call, Caller, Event, Rang, Refusal, Done, TriggerWord}
-use Rattle.board_step.proofs.Chips.irqfds
-use Rattle.board_step.proofs.Chips.{taken}
-use Rattle.board_step.proofs.Plans.{Board, with_part, Routing, routing_of_registry, injected, Plan, done, tell, reply, ◌>>◌, Wishes, run}
-use Rattle.board_step.proofs.Calls.{inject, range_reasons, assign_reasons, unless_refused, source_of, inject_count, assigned, assign, ring_counter}
-use Rattle.std.proofs.Common.{slice_index, is_some}
-use Rattle.board_step.specs.Step.{plan_on}
-use Rattle.board_laws.specs.Rings.{rung_on}
-use Rattle.board_laws.specs.Irqfds.{InjectsAtMostOnce, RingsOnce, OneInjectionOfAnIrqfd}
+use Rattle.board_laws.proofs.Basics.{◌≡◌, ℕ, Bool, true, false, ◌⊎◌, inl, inr, nat_lt, List, ◌∷◌, refl, sym, ap, subst, Some, None, Contains, Option, first_of, Call, Caller, Event, Rang, Refusal, Done, TriggerWord, taken, Board, with_part, Routing, routing_of_registry, injected, Plan, done, tell, reply, ◌>>◌, Wishes, run, inject, range_reasons, assign_reasons, unless_refused, source_of, inject_count, assigned, assign, ring_counter, slice_index, is_some, plan_on, Part, rung_on, InjectsAtMostOnce, RingsOnce, OneInjectionOfAnIrqfd, with_row}
 use Rattle.board_laws.proofs.ConservingOnce.{injects_before, inject_injects}
 use Rattle.board_laws.proofs.DeassignedSignals.{no_member, Refuses, call_rings, call_tells, refused_alone}
 
@@ -34,12 +23,12 @@ module _ (b : Board) (ws : Wishes) where
       (injects_before gsi (λ _. done tt) (inject b.shape.cpus (routing.targets gsi) (source_of (is_some resample)) (λ pic. injected gsi pic))
       (inject_injects gsi b.shape.cpus (routing.targets gsi) (source_of (is_some resample))) (λ _ b ws. refl)) (λ _ b ws. refl) d ws)
 
-  assign_makes : (caller : Caller) (trigger gsi : ℕ) (resample : Option ℕ) → Makes gsi (plan_on b caller (calls.Assign trigger gsi resample)) b
+  assign_makes : (caller : Caller) (trigger gsi : ℕ) (resample : Option ℕ) → Makes gsi (plan_on b caller (Call.Assign trigger gsi resample)) b
   assign_makes caller trigger gsi resample =
-      unless_makes gsi (first_of (range_reasons b.shape (calls.Assign trigger gsi resample))) (assign routing b.shape trigger gsi resample)
+      unless_makes gsi (first_of (range_reasons b.shape (Call.Assign trigger gsi resample))) (assign routing b.shape trigger gsi resample)
       (unless_makes gsi (first_of (assign_reasons b.registry trigger resample)) (assigned routing b.shape b.registry b.counters trigger gsi resample)
       (count_makes gsi resample (nat_lt 0 (slice_index b.counters trigger))
-      (with_part (with_part b parts.Registry (record b.registry { irqfds = irqfds.with_row b.registry.irqfds trigger gsi resample })) parts.Counters (taken b.counters trigger))))
+      (with_part (with_part b Part.Registry (record b.registry { irqfds = with_row b.registry.irqfds trigger gsi resample })) Part.Counters (taken b.counters trigger))))
 
   -- ---- an ioeventfd is rung
 

@@ -1,12 +1,5 @@
 -- A signal that shows as an injection tells that alone, once.
-use Rattle.board_step.proofs.Basics.set
-use Rattle.board_step.proofs.Basics.{◌≡◌, ℕ, Bool, true, false, not, if◌then◌else◌, List, [], ◌∷◌, ◌++◌, refl, ap, ◌∙◌, Some, None, Option}
-use Rattle.board_step.proofs.Types.raises
-use Rattle.board_step.proofs.Types.{Numbers, Injected, Message, MsiWord, Source, Resample, Targets, Ioapic, Lapic, Cause, NoProcessor, BadVector, BadMode, Masked, Status, Shorthand, Raise}
-use Rattle.board_step.proofs.Chips.{is_taken, accepted, raise_of, message_in}
-use Rattle.board_step.proofs.Plans.{ioapic_of, Board, part_of, with_part, Sent, nobody, TargetAnswer, status_of, status_sent, message_answer, no_effect, stood_already, Heading, injected, Plan, done, put, choose, ◌>>=◌, ◌>>◌, Wishes, next_wish, later_wishes, Outcome, run, reached}
-use Rattle.board_step.proofs.Calls.{Processor, named_by, chosen_of, numbers_of, show, ignore, reached_by, see_each, parted, is_illegal, accept_each, deliver, refuse_vector, send_to, send, raise_pic, answer_shown, ioapic_raised, ioapic_answered, accept_pin, is_accepted, raise_other, raise, let_go_pic, let_go_ioapic, let_go, let_go_after, inject}
-use Rattle.board_model.proofs.Sequence.{run-bind}
+use Rattle.board_laws.proofs.Basics.{◌≡◌, ℕ, Bool, true, false, not, if◌then◌else◌, List, [], ◌∷◌, ◌++◌, refl, ap, ◌∙◌, Some, None, Option, Numbers, Injected, Message, MsiWord, Source, Resample, Targets, Ioapic, Lapic, Cause, NoProcessor, BadVector, BadMode, Masked, Status, Shorthand, Raise, is_taken, accepted, raise_of, message_in, ioapic_of, Board, part_of, with_part, Sent, nobody, TargetAnswer, status_of, status_sent, message_answer, no_effect, stood_already, Heading, injected, Plan, done, put, choose, ◌>>=◌, ◌>>◌, Wishes, next_wish, later_wishes, Outcome, run, reached, Processor, named_by, chosen_of, numbers_of, show, ignore, reached_by, see_each, parted, is_illegal, accept_each, deliver, refuse_vector, send_to, send, raise_pic, answer_shown, ioapic_raised, ioapic_answered, accept_pin, is_accepted, raise_other, raise, let_go_pic, let_go_ioapic, let_go, let_go_after, inject, run-bind, contains}
 
 -- a plan tells no event
 abbrev pub Silent : {A : Type 0} → Plan A → Type 0
@@ -34,7 +27,7 @@ see_silent (n ∷ ns) = λ b ws. silent_both (λ rest. done (record { number = n
 
 accept_silent : (message : Message) (takers : Numbers) (ps : List Processor) → Silent (accept_each message takers ps)
 accept_silent message takers [] = λ b ws. refl
-accept_silent message takers (p ∷ ps) = elim (set.contains takers p.number) as (λ t. Silent (if t then put (Lapic p.number) (accepted p.apic message) (accept_each message takers ps) else accept_each message takers ps)) [
+accept_silent message takers (p ∷ ps) = elim (contains takers p.number) as (λ t. Silent (if t then put (Lapic p.number) (accepted p.apic message) (accept_each message takers ps) else accept_each message takers ps)) [
   | true ↦ λ b ws. accept_silent message takers ps (with_part b (Lapic p.number) (accepted p.apic message)) ws
   | false ↦ accept_silent message takers ps
 ]
@@ -115,9 +108,9 @@ module _ (gsi : ℕ) where
     shown_injects other = injects_before (λ _. done other) (show (injected gsi pic) other) (show_injects other) (λ _ b ws. refl)
 
     answered_injects : (cpus pin : ℕ) (answer : Raise) → Injects gsi (ioapic_answered cpus pin (injected gsi pic) answer)
-    answered_injects cpus pin raises.Masked = shown_injects (Some (no_effect Masked))
-    answered_injects cpus pin raises.Stood = shown_injects (Some stood_already)
-    answered_injects cpus pin (raises.Send message) =
+    answered_injects cpus pin Raise.Masked = shown_injects (Some (no_effect Masked))
+    answered_injects cpus pin Raise.Stood = shown_injects (Some stood_already)
+    answered_injects cpus pin (Raise.Send message) =
         injects_before (λ answer. accept_pin pin (is_accepted message answer) >> done (Some answer)) (send cpus message None (injected gsi pic)) (send_injects cpus message None)
         (λ answer. silent_both (λ _. done (Some answer)) (accept_pin pin (is_accepted message answer)) (accept_pin_silent pin (is_accepted message answer)) (λ _ b ws. refl))
 

@@ -1,13 +1,5 @@
 -- What leaves the tick state, acknowledges no pin, rings no ioeventfd, and injects on certain GSIs alone: so are signals.
-use Rattle.board_step.proofs.Basics.{◌≡◌, ℕ, Bool, true, false, List, [], ◌∷◌, refl, ◌++◌, ◌∙◌, Option}
-use Rattle.board_step.proofs.Types.{Event, Acked, Rang, Injected, Source, Targets, Tick, Pin}
-use Rattle.board_step.proofs.Plans.{is_same, Sent, TargetAnswer, About, injected, resent, ipi, the_reply, events_of, Routing, next_wish, later_wishes, run}
-use Rattle.board_step.proofs.Calls.{show, inject, tell_concerned, end_level}
-use Rattle.board_model.proofs.Lens.{part_of-with_other}
-use Rattle.board_step.proofs.Walk.{Walk, Holds, of_relation}
-use Rattle.board_step.proofs.WalkSignals.{Shows, Signals, inject_holds}
-use Rattle.board_step.proofs.WalkAcks.{Tells, tells_by, tell_holds, end_level_holds}
-use Rattle.board_step.proofs.WalkOpen.{Open, open_signals, open_shows, open_raise}
+use Rattle.board_laws.proofs.Basics.{Walk, Holds, of_relation, Shows, Signals, inject_holds, Tells, tells_by, tell_holds, end_level_holds, Open, open_signals, open_shows, open_raise, ◌≡◌, ℕ, Bool, true, false, List, [], ◌∷◌, refl, ◌++◌, ◌∙◌, Option, Event, Acked, Rang, Injected, Source, Targets, Tick, Pin, is_same, Sent, TargetAnswer, About, injected, resent, ipi, the_reply, events_of, Routing, next_wish, later_wishes, run, show, inject, tell_concerned, end_level, part_of-with_other}
 
 -- ---- quiet plans
 

@@ -1,19 +1,5 @@
 -- Ticks are conserved, they are injected where the state is free, and other injections follow acknowledges.
-use Rattle.board_step.proofs.Basics.{◌≡◌, ℕ, ◌+◌, ◌-◌, Bool, true, false, true≢false, not, ◌&&◌, ◌||◌, nat_eq, min, if◌then◌else◌, ◌⊎◌, inl, inr, List, [], ◌∷◌, ◌++◌, refl, sym, ap, subst, ◌∙◌, arith, Some, None, Contains, list_any, Option, nat_tests, Contains-append_left, Contains-append_right}
-use Rattle.board_step.proofs.Types.calls
-use Rattle.board_step.proofs.Types.parts
-use Rattle.board_step.proofs.Types.{Call, Caller, Event, Acked, Rang, Injected, Entry, TickSource, Held, Signal, Part, Shape, Status, TickState}
-use Rattle.board_step.proofs.Chips.{in_mode, ticked, tick_injects, tick_injected}
-use Rattle.board_step.proofs.Plans.{Board, part_of, with_part, Routing, routing_of_registry, the_reply, Plan, change, Wishes, Outcome, run}
-use Rattle.board_step.proofs.Calls.{inject, tick_or_hold}
-use Rattle.std.specs.Prelude.{◌≢◌}
-use Rattle.board_model.proofs.Sequence.{run-bind}
-use Rattle.board_step.specs.Step.{plan_on, outcome_of, with_counts, would_publish, Step}
-use Rattle.board_step.specs.History.{opening, next_board, Leads, board_after}
-use Rattle.board_laws.specs.Points.{board_at, board_left, OfLegalHistories}
-use Rattle.board_laws.specs.Ticks.{is_tick, ticks_in, acks_in, ticks_taken_by, ticks_taken, is_tick_mode, sets_mode, StartsReinjection, TicksAreConserved, HoldsBack, BusyTicksAreHeldBack, IsFreeUnlessReinjects, StateIsFreeUnlessReinjects, FallsFree, TicksInjectFree, acks_or_injects, FollowsAcknowledge, OtherInjectionsFollowAcknowledges}
-use Rattle.board_step.proofs.Following.{next_is}
-use Rattle.board_step.proofs.SoundRows.{or_neither}
+use Rattle.board_laws.proofs.Basics.{◌≡◌, ℕ, ◌+◌, ◌-◌, Bool, true, false, true≢false, not, ◌&&◌, ◌||◌, nat_eq, min, if◌then◌else◌, ◌⊎◌, inl, inr, List, [], ◌∷◌, ◌++◌, refl, sym, ap, subst, ◌∙◌, arith, Some, None, Contains, list_any, Option, nat_tests, Contains-append_left, Contains-append_right, Call, Caller, Event, Acked, Rang, Injected, Entry, TickSource, Held, Signal, Part, Shape, Status, TickState, in_mode, ticked, tick_injects, tick_injected, Board, part_of, with_part, Routing, routing_of_registry, the_reply, Plan, change, Wishes, Outcome, run, inject, tick_or_hold, ◌≢◌, run-bind, plan_on, outcome_of, with_counts, would_publish, Step, opening, next_board, Leads, board_after, board_at, board_left, OfLegalHistories, is_tick, ticks_in, acks_in, ticks_taken_by, ticks_taken, is_tick_mode, sets_mode, StartsReinjection, TicksAreConserved, HoldsBack, BusyTicksAreHeldBack, IsFreeUnlessReinjects, StateIsFreeUnlessReinjects, FallsFree, TicksInjectFree, acks_or_injects, FollowsAcknowledge, OtherInjectionsFollowAcknowledges, next_is, or_neither}
 use Rattle.board_laws.proofs.DeassignedRows.{last_answer}
 use Rattle.board_laws.proofs.Points.{split, after_both, step_at, holds_at, at_points, of_boards}
 use Rattle.board_laws.proofs.ConservingQuiet.{inject_quiet}
@@ -26,7 +12,7 @@ use Rattle.board_laws.proofs.ConservingCalls.{Lets, call_keeps, tick_keeps}
 fall_acks : (routing : Routing) (shape : Shape) (gsi : ℕ) (held : TickState) (injects : Bool) (b : Board) (ws : Wishes) → acks_in gsi (run (tick_or_hold routing shape held injects) b ws).log.events ≡ 0
 fall_acks routing shape gsi held true b ws =
     let m = inject shape.cpus (routing.targets shape.tick) TickSource (λ pic. the_reply pic) in
-    let f : Status → Plan (Unit {0}) = λ status. change parts.Tick (λ tick. tick_injected tick status) in
+    let f : Status → Plan (Unit {0}) = λ status. change Part.Tick (λ tick. tick_injected tick status) in
     ap (λ (o : Outcome (Unit {0})). acks_in gsi o.log.events) (run-bind f m b ws)
     ∙ acks_append gsi (run m b ws).log.events []
     ∙ none (acks_in gsi (run m b ws).log.events) (quiet_acks gsi (λ _. false) m b ws (inject_quiet (λ _. false) shape.cpus (routing.targets shape.tick) TickSource (λ pic. the_reply pic) (λ _. refl)))
@@ -47,11 +33,11 @@ record Balances {A : Type 0} (call : Call) (b : Board) (o : Outcome A) : Type 0 
   balance : o.board.tick.pending + min (acks_in b.shape.tick o.log.events) b.tick.pending ≡ b.tick.pending + is_tick call
 
 lets_all : (call : Call) → is_tick call ≡ 0 → is_tick_mode call ≡ false → Lets true (λ _. true) call
-lets_all (calls.Assign trigger gsi resample) other stays = refl
-lets_all (calls.PortOut port len value) other stays = inr refl
-lets_all (calls.Store address len value) other stays = inr refl
-lets_all calls.Tick other stays = cc
-lets_all (calls.TickMode reinject) other stays = cc
+lets_all (Call.Assign trigger gsi resample) other stays = refl
+lets_all (Call.PortOut port len value) other stays = inr refl
+lets_all (Call.Store address len value) other stays = inr refl
+lets_all Call.Tick other stays = cc
+lets_all (Call.TickMode reinject) other stays = cc
 lets_all _ other stays = tt
 
 balances : (b : Board) (caller : Caller) (ws : Wishes) → b.tick.reinjects ≡ true → (call : Call) → is_tick_mode call ≡ false → Balances call b (run (plan_on b caller call) b ws)
@@ -69,11 +55,11 @@ balances b caller ws on call stays = by_call call stays
         sum : (left was acks one : ℕ) → left ≡ was - (0 + acks) → one ≡ 0 → left + min acks was ≡ was + one
         sum left was acks one e f = omega (arith, e, f)
 
-    fallen : Balances calls.Tick b (run (plan_on b caller calls.Tick) b ws)
+    fallen : Balances Call.Tick b (run (plan_on b caller Call.Tick) b ws)
     fallen =
         let held = ticked b.tick in
         let injects = tick_injects b.tick in
-        let during = with_part b parts.Tick held in
+        let during = with_part b Part.Tick held in
         let r = tick_keeps routing b.shape true (λ _. true) held injects during ws in
         let o = run (tick_or_hold routing b.shape held injects) during ws in
         let more = ticked_more b.tick on in
@@ -83,8 +69,8 @@ balances b caller ws on call stays = by_call call stays
         sum left held was acks e f g = omega (arith, e, f, g)
 
     by_call : (call : Call) → is_tick_mode call ≡ false → Balances call b (run (plan_on b caller call) b ws)
-    by_call calls.Tick stays = fallen
-    by_call (calls.TickMode reinject) stays = cc
+    by_call Call.Tick stays = fallen
+    by_call (Call.TickMode reinject) stays = cc
     by_call call stays = others call refl stays
 
 counted_tick : (t : Bool) (b : Board) → (with_counts t b).tick ≡ b.tick
@@ -127,7 +113,7 @@ conserved_from b es c start leads stays =
     sum was all last taken e f = omega (arith, e, f)
 
 -- an entry that sets the mode of ticks leaves that mode at its start
-mode_set : (b : Board) (e : Entry) (c : Board) (reinject : Bool) → Step b e c → e.call ≡ calls.TickMode reinject → c.tick ≡ in_mode reinject
+mode_set : (b : Board) (e : Entry) (c : Board) (reinject : Bool) → Step b e c → e.call ≡ Call.TickMode reinject → c.tick ≡ in_mode reinject
 mode_set b e c reinject h1 h2 = grind arith
 
 -- reinjection starts on the board after such entries
@@ -148,14 +134,14 @@ ticks_are_conserved shape history (last, leads) early es stretch =
 -- ---- ticks are injected where the state is free
 
 -- a write of the tick state, and a count of calls, change no other part
-counted_part : (t : Bool) (b : Board) (v : TickState) (q : Part) → q ≢ parts.Tick → part_of (with_counts t (with_part b parts.Tick v)) q ≡ part_of b q
-counted_part true b v parts.Tick other = absurd (other refl)
-counted_part false b v parts.Tick other = absurd (other refl)
+counted_part : (t : Bool) (b : Board) (v : TickState) (q : Part) → q ≢ Part.Tick → part_of (with_counts t (with_part b Part.Tick v)) q ≡ part_of b q
+counted_part true b v Part.Tick other = absurd (other refl)
+counted_part false b v Part.Tick other = absurd (other refl)
 counted_part true b v _ other = refl
 counted_part false b v _ other = refl
 
 -- a tick that is not injected answers how many are pending, and writes no more
-held_back : (b : Board) (e : Entry) (c : Board) (s : Step b e c) → e.call ≡ calls.Tick → b.tick.reinjects ≡ true → tick_injects b.tick ≡ false → HoldsBack b e c
+held_back : (b : Board) (e : Entry) (c : Board) (s : Step b e c) → e.call ≡ Call.Tick → b.tick.reinjects ≡ true → tick_injects b.tick ≡ false → HoldsBack b e c
 held_back b e c s falls on never =
     record {
       reply = last_answer [] (Held (ticked b.tick).pending) e.reply (sym (ap (λ (o : Outcome (Unit {0})). o.log.answers) is) ∙ s.replied) ∙ ap Held (ticked_more b.tick on).1;
@@ -165,7 +151,7 @@ held_back b e c s falls on never =
     }
   where
     during : Board
-    during = with_part b parts.Tick (ticked b.tick)
+    during = with_part b Part.Tick (ticked b.tick)
 
     routing : Routing
     routing = routing_of_registry b.registry b.shape.tick
@@ -199,9 +185,9 @@ call_open b caller ws call before = by_call call
     routing = routing_of_registry b.registry b.shape.tick
 
     by_call : (call : Call) → IsOpen (run (plan_on b caller call) b ws).board.tick
-    by_call calls.Tick =
-        open_stays (tick_keeps routing b.shape true (λ _. true) (ticked b.tick) (tick_injects b.tick) (with_part b parts.Tick (ticked b.tick)) ws) (ticked_open b.tick before)
-    by_call (calls.TickMode reinject) = λ _. refl
+    by_call Call.Tick =
+        open_stays (tick_keeps routing b.shape true (λ _. true) (ticked b.tick) (tick_injects b.tick) (with_part b Part.Tick (ticked b.tick)) ws) (ticked_open b.tick before)
+    by_call (Call.TickMode reinject) = λ _. refl
     by_call call = open_stays (call_keeps routing b.shape true (λ _. true) caller call (lets_all call refl refl) b ws) before
 
 step_open : (b : Board) (e : Entry) (c : Board) → Step b e c → IsFreeUnlessReinjects b → IsFreeUnlessReinjects c
@@ -218,14 +204,14 @@ state_is_free_unless_reinjects = of_boards IsFreeUnlessReinjects step_open openi
 falls_free : (b : Board) (e : Entry) (c : Board) → Step b e c → IsFreeUnlessReinjects b → FallsFree b e c
 falls_free b e c s before = record { injected = λ status falls replied. by_state falls status replied b.tick.free refl; held = held }
   where
-    held : e.call ≡ calls.Tick → b.tick.free ≡ false → HoldsBack b e c
+    held : e.call ≡ Call.Tick → b.tick.free ≡ false → HoldsBack b e c
     held falls busy = of_mode b.tick.reinjects refl
       where
         of_mode : (t : Bool) → b.tick.reinjects ≡ t → HoldsBack b e c
         of_mode true on = busy_ticks_are_held_back b e c s falls on busy
         of_mode false off = absurd (true≢false (sym (before off) ∙ busy))
 
-    by_state : e.call ≡ calls.Tick → (status : Status) → e.reply ≡ Signal status → (t : Bool) → b.tick.free ≡ t → t ≡ true
+    by_state : e.call ≡ Call.Tick → (status : Status) → e.reply ≡ Signal status → (t : Bool) → b.tick.free ≡ t → t ≡ true
     by_state h1 status h2 t h3 = grind arith
 
 pub ticks_inject_free : OfLegalHistories TicksInjectFree
@@ -234,23 +220,23 @@ ticks_inject_free = at_points (λ shape p. FallsFree (board_at shape p) p.entry 
 
 -- ---- other injections follow acknowledges
 
-lets_none : (call : Call) → ((trigger gsi : ℕ) (resample : Option ℕ) → call ≡ calls.Assign trigger gsi resample → ⊥) → is_tick call ≡ 0 → is_tick_mode call ≡ false → Lets true (λ _. false) call
-lets_none (calls.Assign trigger gsi resample) makes other stays = absurd (makes trigger gsi resample refl)
-lets_none (calls.PortOut port len value) makes other stays = inr refl
-lets_none (calls.Store address len value) makes other stays = inr refl
-lets_none calls.Tick makes other stays = cc
-lets_none (calls.TickMode reinject) makes other stays = cc
+lets_none : (call : Call) → ((trigger gsi : ℕ) (resample : Option ℕ) → call ≡ Call.Assign trigger gsi resample → ⊥) → is_tick call ≡ 0 → is_tick_mode call ≡ false → Lets true (λ _. false) call
+lets_none (Call.Assign trigger gsi resample) makes other stays = absurd (makes trigger gsi resample refl)
+lets_none (Call.PortOut port len value) makes other stays = inr refl
+lets_none (Call.Store address len value) makes other stays = inr refl
+lets_none Call.Tick makes other stays = cc
+lets_none (Call.TickMode reinject) makes other stays = cc
 lets_none _ makes other stays = tt
 
-singly : (b : Board) (caller : Caller) (ws : Wishes) (call : Call) → ((trigger gsi : ℕ) (resample : Option ℕ) → call ≡ calls.Assign trigger gsi resample → ⊥) → Singly b.shape.tick (λ _. false) false (run (plan_on b caller call) b ws).log.events
+singly : (b : Board) (caller : Caller) (ws : Wishes) (call : Call) → ((trigger gsi : ℕ) (resample : Option ℕ) → call ≡ Call.Assign trigger gsi resample → ⊥) → Singly b.shape.tick (λ _. false) false (run (plan_on b caller call) b ws).log.events
 singly b caller ws call makes = by_call call makes
   where
     routing : Routing
     routing = routing_of_registry b.registry b.shape.tick
 
-    by_call : (call : Call) → ((trigger gsi : ℕ) (resample : Option ℕ) → call ≡ calls.Assign trigger gsi resample → ⊥) → Singly b.shape.tick (λ _. false) false (run (plan_on b caller call) b ws).log.events
-    by_call calls.Tick makes = (tick_keeps routing b.shape true (λ _. false) (ticked b.tick) (tick_injects b.tick) (with_part b parts.Tick (ticked b.tick)) ws).singly
-    by_call (calls.TickMode reinject) makes = tt
+    by_call : (call : Call) → ((trigger gsi : ℕ) (resample : Option ℕ) → call ≡ Call.Assign trigger gsi resample → ⊥) → Singly b.shape.tick (λ _. false) false (run (plan_on b caller call) b ws).log.events
+    by_call Call.Tick makes = (tick_keeps routing b.shape true (λ _. false) (ticked b.tick) (tick_injects b.tick) (with_part b Part.Tick (ticked b.tick)) ws).singly
+    by_call (Call.TickMode reinject) makes = tt
     by_call call makes = (call_keeps routing b.shape true (λ _. false) caller call (lets_none call makes refl refl) b ws).singly
 
 -- no event of these is that of an ioeventfd

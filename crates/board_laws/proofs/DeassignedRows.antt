@@ -1,21 +1,6 @@
 -- The rows of irqfds along a history: each trigger has one row at most, and a trigger whose row went has none until one is made.
-use Rattle.board_step.proofs.Basics.{◌≡◌, ℕ, Bool, true, false, true≢false, cond, not, ◌||◌, nat_eq, nat_lt, ◌⊎◌, inl, inr, List, [], ◌∷◌, ◌++◌, filter, refl, sym, ap, subst, ◌∙◌, arith, Some, None, find, list_any, first_so, unsigned_Decides, Option, eqb_tells, list_any-append}
-use Rattle.board_step.proofs.Types.calls
-use Rattle.board_step.proofs.Types.{first_of, Call, Caller, Entry, Resample, Refusal, Busy, RoleClash, Reply, Done, Removed, Shape, Irqfd}
-use Rattle.board_step.proofs.Chips.{taken, has_trigger, is_named, named_row, with_row, without_row}
-use Rattle.board_step.proofs.Plans.{Board, RegistryPart, Routing, routing_of_registry, injected, Plan, done, reply, ◌>>◌, Wishes, Outcome, run}
-use Rattle.board_step.proofs.Calls.{inject, range_reasons, is_trigger, is_signalled, resample_clashes, assign_reasons, attach_reasons, detach_reasons, watch_reasons, unwatch_reasons, unless_refused, source_of, inject_count, assigned, release, deassigned, number_of, io_row, plan_in_range}
-use Rattle.std.proofs.Common.{slice_index, is_some}
-use Rattle.route_table.proofs.Sound.{no_reason}
-use Rattle.board_model.proofs.Sequence.{run-bind}
-use Rattle.board_raise.proofs.Manner.{Manner, Keeps, keeps_bind, registry_stays}
-use Rattle.board_raise.proofs.SignalSteady.{let_go_keeps, inject_keeps}
-use Rattle.board_step.specs.Step.{plan_on, outcome_of, with_counts, would_publish, Step}
-use Rattle.board_step.specs.History.{opening}
-use Rattle.board_laws.specs.Deassigned.{EndsTrigger, MakesTrigger}
-use Rattle.board_step.proofs.CallManner.{replies_in, writes_in, refuses_in, ends, call_keeps, or_true}
+use Rattle.board_laws.proofs.Basics.{◌≡◌, ℕ, Bool, true, false, true≢false, cond, not, ◌||◌, nat_eq, nat_lt, ◌⊎◌, inl, inr, List, [], ◌∷◌, ◌++◌, filter, refl, sym, ap, subst, ◌∙◌, arith, Some, None, find, list_any, first_so, unsigned_Decides, Option, eqb_tells, list_any-append, first_of, Call, Caller, Entry, Resample, Refusal, Busy, RoleClash, Reply, Done, Removed, Shape, Irqfd, taken, has_trigger, is_named, named_row, with_row, without_row, Board, RegistryPart, Routing, routing_of_registry, injected, Plan, done, reply, ◌>>◌, Wishes, Outcome, run, inject, range_reasons, is_trigger, is_signalled, resample_clashes, assign_reasons, attach_reasons, detach_reasons, watch_reasons, unwatch_reasons, unless_refused, source_of, inject_count, assigned, release, deassigned, number_of, io_row, plan_in_range, slice_index, is_some, no_reason, run-bind, Manner, Keeps, keeps_bind, registry_stays, let_go_keeps, inject_keeps, plan_on, outcome_of, with_counts, would_publish, Step, opening, EndsTrigger, MakesTrigger, replies_in, writes_in, refuses_in, ends, call_keeps, or_true, or_neither, or_both, none_fewer}
 use Rattle.board_laws.proofs.ConservingAcks.{or_right}
-use Rattle.board_step.proofs.SoundRows.{or_neither, or_both, none_fewer}
 
 -- ---- rows
 
@@ -77,7 +62,7 @@ pub record MakesRow (b : Board) (asked : Call) (left : List Irqfd) (replies : Li
   pub trigger : ℕ
   pub gsi : ℕ
   pub resample : Option ℕ
-  pub call : asked ≡ calls.Assign trigger gsi resample
+  pub call : asked ≡ Call.Assign trigger gsi resample
   pub first : is_trigger b.registry trigger ≡ false
   pub rows : left ≡ with_row b.registry.irqfds trigger gsi resample
   pub earlier : List Reply
@@ -114,7 +99,7 @@ module _ (b : Board) (caller : Caller) (ws : Wishes) where
 
   -- an irqfd is made
 
-  made : (trigger gsi : ℕ) (resample : Option ℕ) → first_of (assign_reasons b.registry trigger resample) ≡ None → RowsAfter b (calls.Assign trigger gsi resample) (run (assigned routing b.shape b.registry b.counters trigger gsi resample) b ws)
+  made : (trigger gsi : ℕ) (resample : Option ℕ) → first_of (assign_reasons b.registry trigger resample) ≡ None → RowsAfter b (Call.Assign trigger gsi resample) (run (assigned routing b.shape b.registry b.counters trigger gsi resample) b ws)
   made trigger gsi resample none =
       let w = reading false in
       let injects = nat_lt 0 (slice_index b.counters trigger) in
@@ -146,7 +131,7 @@ module _ (b : Board) (caller : Caller) (ws : Wishes) where
   pub gone : (trigger gsi : ℕ) (row : Irqfd) → (run (deassigned routing b.registry trigger gsi (Some row)) b ws).board.registry.irqfds ≡ without_row b.registry.irqfds trigger gsi
   gone trigger gsi row = grind arith
 
-  ended : (trigger gsi : ℕ) (row : Option Irqfd) → RowsAfter b (calls.Deassign trigger gsi) (run (deassigned routing b.registry trigger gsi row) b ws)
+  ended : (trigger gsi : ℕ) (row : Option Irqfd) → RowsAfter b (Call.Deassign trigger gsi) (run (deassigned routing b.registry trigger gsi row) b ws)
   ended trigger gsi None = inl refl
   ended trigger gsi (Some row) = inr (inr (record { trigger = trigger; gsi = gsi; rows = gone trigger gsi row }))
 
@@ -156,18 +141,18 @@ module _ (b : Board) (caller : Caller) (ws : Wishes) where
   in_range call = plan_in_range routing b.shape (number_of caller) call
 
   pub rows_after : (call : Call) → RowsAfter b call (run (plan_on b caller call) b ws)
-  rows_after (calls.Reroute rows) = unless_rows (calls.Reroute rows) (first_of (range_reasons b.shape (calls.Reroute rows))) (in_range (calls.Reroute rows)) (λ _. inl refl)
-  rows_after (calls.Assign trigger gsi resample) = unless_rows (calls.Assign trigger gsi resample) (first_of (range_reasons b.shape (calls.Assign trigger gsi resample))) (in_range (calls.Assign trigger gsi resample))
-      (λ _. unless_rows (calls.Assign trigger gsi resample) (first_of (assign_reasons b.registry trigger resample)) (assigned routing b.shape b.registry b.counters trigger gsi resample) (made trigger gsi resample))
-  rows_after (calls.Deassign trigger gsi) = unless_rows (calls.Deassign trigger gsi) (first_of (range_reasons b.shape (calls.Deassign trigger gsi))) (in_range (calls.Deassign trigger gsi)) (λ _. ended trigger gsi (named_row b.registry.irqfds trigger gsi))
-  rows_after (calls.Attach space address len counter want) = unless_rows (calls.Attach space address len counter want) (first_of (range_reasons b.shape (calls.Attach space address len counter want))) (in_range (calls.Attach space address len counter want))
-      (λ _. unless_rows (calls.Attach space address len counter want) (first_of (attach_reasons b.registry (io_row space address len counter want))) _ (λ _. inl refl))
-  rows_after (calls.Detach space address len counter want) = unless_rows (calls.Detach space address len counter want) (first_of (range_reasons b.shape (calls.Detach space address len counter want))) (in_range (calls.Detach space address len counter want))
-      (λ _. unless_rows (calls.Detach space address len counter want) (first_of (detach_reasons b.registry (io_row space address len counter want))) _ (λ _. inl refl))
-  rows_after (calls.Watch counter gsi) = unless_rows (calls.Watch counter gsi) (first_of (range_reasons b.shape (calls.Watch counter gsi))) (in_range (calls.Watch counter gsi))
-      (λ _. unless_rows (calls.Watch counter gsi) (first_of (watch_reasons b.registry counter gsi)) _ (λ _. inl refl))
-  rows_after (calls.Unwatch counter gsi) = unless_rows (calls.Unwatch counter gsi) (first_of (range_reasons b.shape (calls.Unwatch counter gsi))) (in_range (calls.Unwatch counter gsi))
-      (λ _. unless_rows (calls.Unwatch counter gsi) (first_of (unwatch_reasons b.registry counter gsi)) _ (λ _. inl refl))
+  rows_after (Call.Reroute rows) = unless_rows (Call.Reroute rows) (first_of (range_reasons b.shape (Call.Reroute rows))) (in_range (Call.Reroute rows)) (λ _. inl refl)
+  rows_after (Call.Assign trigger gsi resample) = unless_rows (Call.Assign trigger gsi resample) (first_of (range_reasons b.shape (Call.Assign trigger gsi resample))) (in_range (Call.Assign trigger gsi resample))
+      (λ _. unless_rows (Call.Assign trigger gsi resample) (first_of (assign_reasons b.registry trigger resample)) (assigned routing b.shape b.registry b.counters trigger gsi resample) (made trigger gsi resample))
+  rows_after (Call.Deassign trigger gsi) = unless_rows (Call.Deassign trigger gsi) (first_of (range_reasons b.shape (Call.Deassign trigger gsi))) (in_range (Call.Deassign trigger gsi)) (λ _. ended trigger gsi (named_row b.registry.irqfds trigger gsi))
+  rows_after (Call.Attach space address len counter want) = unless_rows (Call.Attach space address len counter want) (first_of (range_reasons b.shape (Call.Attach space address len counter want))) (in_range (Call.Attach space address len counter want))
+      (λ _. unless_rows (Call.Attach space address len counter want) (first_of (attach_reasons b.registry (io_row space address len counter want))) _ (λ _. inl refl))
+  rows_after (Call.Detach space address len counter want) = unless_rows (Call.Detach space address len counter want) (first_of (range_reasons b.shape (Call.Detach space address len counter want))) (in_range (Call.Detach space address len counter want))
+      (λ _. unless_rows (Call.Detach space address len counter want) (first_of (detach_reasons b.registry (io_row space address len counter want))) _ (λ _. inl refl))
+  rows_after (Call.Watch counter gsi) = unless_rows (Call.Watch counter gsi) (first_of (range_reasons b.shape (Call.Watch counter gsi))) (in_range (Call.Watch counter gsi))
+      (λ _. unless_rows (Call.Watch counter gsi) (first_of (watch_reasons b.registry counter gsi)) _ (λ _. inl refl))
+  rows_after (Call.Unwatch counter gsi) = unless_rows (Call.Unwatch counter gsi) (first_of (range_reasons b.shape (Call.Unwatch counter gsi))) (in_range (Call.Unwatch counter gsi))
+      (λ _. unless_rows (Call.Unwatch counter gsi) (first_of (unwatch_reasons b.registry counter gsi)) _ (λ _. inl refl))
   rows_after call = unwritten call refl
 
 -- ---- along a history
@@ -208,7 +193,7 @@ step_off trigger b e c s never off = subst (λ (rows : List Irqfd). list_any (ha
       | inl same ↦ absurd (never (record {
         gsi = makes.gsi;
         resample = makes.resample;
-        call = makes.call ∙ ap (λ t. calls.Assign t makes.gsi makes.resample) same.1;
+        call = makes.call ∙ ap (λ t. Call.Assign t makes.gsi makes.resample) same.1;
         reply = last_answer makes.earlier Done e.reply (sym makes.answers ∙ s.replied);
       }))
       | inr other ↦ other.0
@@ -220,7 +205,7 @@ step_off trigger b e c s never off = subst (λ (rows : List Irqfd). list_any (ha
 pub ends_off : (trigger : ℕ) (b : Board) (e : Entry) (c : Board) → Step b e c → EndsTrigger trigger e → AreApart b.registry.irqfds → is_trigger c.registry trigger ≡ false
 ends_off trigger b e c s ends apart =
     subst (λ (rows : List Irqfd). list_any (has_trigger trigger) rows ≡ false) (rows_left b e c s)
-    (ap (λ call. list_any (has_trigger trigger) (run (plan_on b e.caller call) b s.wishes).board.registry.irqfds) ends.call ∙ by_range (first_of (range_reasons b.shape (calls.Deassign trigger ends.gsi)))
+    (ap (λ call. list_any (has_trigger trigger) (run (plan_on b e.caller call) b s.wishes).board.registry.irqfds) ends.call ∙ by_range (first_of (range_reasons b.shape (Call.Deassign trigger ends.gsi)))
     (ap (λ call. (run (plan_on b e.caller call) b s.wishes).log.answers) (sym ends.call) ∙ s.replied ∙ ap (λ r. r ∷ []) ends.reply))
   where
     routing : Routing
@@ -230,7 +215,7 @@ ends_off trigger b e c s ends apart =
     by_row None is answers = cc
     by_row (Some row) is answers = ap (list_any (has_trigger trigger)) (gone b e.caller s.wishes trigger ends.gsi row) ∙ none_left trigger ends.gsi b.registry.irqfds row apart is
 
-    by_range : (refusal : Option Refusal) → (run (unless_refused refusal (plan_in_range routing b.shape (number_of e.caller) (calls.Deassign trigger ends.gsi))) b s.wishes).log.answers ≡ Removed 1 ∷ []
-        → list_any (has_trigger trigger) (run (unless_refused refusal (plan_in_range routing b.shape (number_of e.caller) (calls.Deassign trigger ends.gsi))) b s.wishes).board.registry.irqfds ≡ false
+    by_range : (refusal : Option Refusal) → (run (unless_refused refusal (plan_in_range routing b.shape (number_of e.caller) (Call.Deassign trigger ends.gsi))) b s.wishes).log.answers ≡ Removed 1 ∷ []
+        → list_any (has_trigger trigger) (run (unless_refused refusal (plan_in_range routing b.shape (number_of e.caller) (Call.Deassign trigger ends.gsi))) b s.wishes).board.registry.irqfds ≡ false
     by_range None answers = by_row (named_row b.registry.irqfds trigger ends.gsi) refl answers
     by_range (Some refusal) answers = cc

@@ -1,19 +1,6 @@
 -- From the end of an irqfd to the next of its trigger, a write of its counter or a guest write that rings it signals nothing.
-use Rattle.board_step.proofs.Basics.{◌≡◌, ◌≢◌, ℕ, zero, suc, ◌-◌, ◌<◌, Bool, true, false, true≢false, ◌||◌, ◌⊎◌, inl, inr, if◌then◌else◌, List, [], ◌∷◌, ◌++◌, refl, sym, ap, subst, ◌∙◌, arith, option_map, Some, None, find, slice_get, slice_set, Contains, list_any, Option, Contains-append_left, Contains-append_right}
-use Rattle.board_step.proofs.Types.calls
-use Rattle.board_step.proofs.Types.spaces
-use Rattle.board_step.proofs.Types.parts
-use Rattle.board_step.proofs.Types.{first_of, Call, Caller, Event, Rang, Entry, Refusal, Done, Refused, Part, Shape, Irqfd, TriggerWord}
-use Rattle.board_step.proofs.Chips.{is_port, written, ticked, tick_injects, has_trigger, rung_by}
-use Rattle.board_step.proofs.Plans.{Board, part_of, with_part, Routing, routing_of_registry, trigger_of, Plan, put, tell, reply, ◌>>◌, Wishes, Outcome, run}
-use Rattle.board_step.proofs.Calls.{range_reasons, write_reasons, is_trigger, is_ioapic_address, is_lapic_address, unless_refused, write, pair_write, ioapic_store, lapic_store, port_out, store, ring_counter, rung, ring, number_of}
-use Rattle.board_step.specs.Step.{does_publish, publishes_unless, would_publish, plan_on, outcome_of, with_counts, Step}
-use Rattle.board_step.specs.History.{opening, Leads, board_after}
-use Rattle.board_laws.specs.Points.{Point, board_at, board_left, IsLegal, OfLegalHistories}
-use Rattle.board_laws.specs.Rings.{rung_on, IsRefusedAlone}
-use Rattle.board_laws.specs.Deassigned.{MakesTrigger, ChangesCountAlone, SignalsNothing, RingsAlone, SignalsNoMore, EndedSignalsNoMore, NoSignalOfDeassignedTrigger}
+use Rattle.board_laws.proofs.Basics.{◌≡◌, ◌≢◌, ℕ, zero, suc, ◌-◌, ◌<◌, Bool, true, false, true≢false, ◌||◌, ◌⊎◌, inl, inr, if◌then◌else◌, List, [], ◌∷◌, ◌++◌, refl, sym, ap, subst, ◌∙◌, arith, option_map, Some, None, find, slice_get, slice_set, Contains, list_any, Option, Contains-append_left, Contains-append_right, first_of, Call, Caller, Event, Rang, Entry, Refusal, Done, Refused, Part, Shape, Irqfd, TriggerWord, is_port, written, ticked, tick_injects, has_trigger, rung_by, Board, part_of, with_part, Routing, routing_of_registry, trigger_of, Plan, put, tell, reply, ◌>>◌, Wishes, Outcome, run, range_reasons, write_reasons, is_trigger, is_ioapic_address, is_lapic_address, unless_refused, write, pair_write, ioapic_store, lapic_store, port_out, store, ring_counter, rung, ring, number_of, does_publish, publishes_unless, would_publish, plan_on, outcome_of, with_counts, Step, opening, Leads, board_after, Space, Point, board_at, board_left, IsLegal, OfLegalHistories, rung_on, IsRefusedAlone, MakesTrigger, ChangesCountAlone, SignalsNothing, RingsAlone, SignalsNoMore, EndedSignalsNoMore, NoSignalOfDeassignedTrigger, or_neither}
 use Rattle.board_laws.proofs.Points.{split, kept, before_point, step_at, at_points}
-use Rattle.board_step.proofs.SoundRows.{or_neither}
 use Rattle.board_laws.proofs.ConservingAcks.{or_right, allows, Allowed, quiet_conserving}
 use Rattle.board_laws.proofs.ConservingCalls.{Lets, rung_quiet, call_keeps, tick_keeps}
 use Rattle.board_laws.proofs.DeassignedRows.{AreApart, last_answer, step_apart, opening_apart, step_off, ends_off}
@@ -65,19 +52,19 @@ record Rings (counter : ℕ) (b : Board) (o : Outcome (Unit {0})) : Type 0 where
 changes_none : (counter : ℕ) (b : Board) → ChangesCountAlone counter b b
 changes_none counter b = record { parts = λ q _. refl; counts = λ k _. refl }
 
-changes_count : (counter v : ℕ) (b : Board) → ChangesCountAlone counter b (with_part b parts.Counters (slice_set b.counters counter v))
+changes_count : (counter v : ℕ) (b : Board) → ChangesCountAlone counter b (with_part b Part.Counters (slice_set b.counters counter v))
 changes_count counter v b = record { parts = others; counts = λ k ne. other_place b.counters counter k v ne }
   where
-    others : (q : Part) → q ≢ parts.Counters → part_of (with_part b parts.Counters (slice_set b.counters counter v)) q ≡ part_of b q
-    others parts.Registry ne = refl
-    others parts.Counters ne = absurd (ne refl)
-    others parts.Tick ne = refl
-    others parts.Pic ne = refl
-    others parts.Ioapic ne = refl
-    others (parts.Lapic n) ne = refl
+    others : (q : Part) → q ≢ Part.Counters → part_of (with_part b Part.Counters (slice_set b.counters counter v)) q ≡ part_of b q
+    others Part.Registry ne = refl
+    others Part.Counters ne = absurd (ne refl)
+    others Part.Tick ne = refl
+    others Part.Pic ne = refl
+    others Part.Ioapic ne = refl
+    others (Part.Lapic n) ne = refl
 
 changes_counted : (counter : ℕ) (t : Bool) (b o : Board) → ChangesCountAlone counter b o → ChangesCountAlone counter b (with_counts t o)
-changes_counted counter t b o h = record { parts = λ q ne. same t q ∙ h.parts q ne; counts = λ k ne. ap (λ counts. slice_get counts k) (same t parts.Counters) ∙ h.counts k ne }
+changes_counted counter t b o h = record { parts = λ q ne. same t q ∙ h.parts q ne; counts = λ k ne. ap (λ counts. slice_get counts k) (same t Part.Counters) ∙ h.counts k ne }
   where
     same : (t : Bool) (q : Part) → part_of (with_counts t o) q ≡ part_of o q
     same t q = grind arith
@@ -107,21 +94,21 @@ module _ (counter : ℕ) (b : Board) (ws : Wishes) where
     rung_rings k is = subst (λ (k : Option ℕ). RefusesOrRings (rung routing b.shape k)) (sym is) (inr is_rung)
 
     -- a write to a port
-    port_rings : (t : Bool) (port len value : ℕ) → (if t then None else rung_by b.registry.ioevents spaces.Port port len value) ≡ Some counter
-        → RefusesOrRings (if t then pair_write routing b.shape port len value else ring routing b.shape spaces.Port port len value)
+    port_rings : (t : Bool) (port len value : ℕ) → (if t then None else rung_by b.registry.ioevents Space.Port port len value) ≡ Some counter
+        → RefusesOrRings (if t then pair_write routing b.shape port len value else ring routing b.shape Space.Port port len value)
     port_rings true port len value is = cc
-    port_rings false port len value is = rung_rings (rung_by b.registry.ioevents spaces.Port port len value) is
+    port_rings false port len value is = rung_rings (rung_by b.registry.ioevents Space.Port port len value) is
 
     -- a store to memory
-    store_rings : (t u : Bool) (n address len value : ℕ) → (if t || u then None else rung_by b.registry.ioevents spaces.Memory address len value) ≡ Some counter
-        → RefusesOrRings (if t then ioapic_store b.shape (address - 0xfec00000) len value else if u then lapic_store routing b.shape n (address - 0xfee00000) len value else ring routing b.shape spaces.Memory address len value)
+    store_rings : (t u : Bool) (n address len value : ℕ) → (if t || u then None else rung_by b.registry.ioevents Space.Memory address len value) ≡ Some counter
+        → RefusesOrRings (if t then ioapic_store b.shape (address - 0xfec00000) len value else if u then lapic_store routing b.shape n (address - 0xfee00000) len value else ring routing b.shape Space.Memory address len value)
     store_rings true u n address len value is = cc
     store_rings false true n address len value is = cc
-    store_rings false false n address len value is = rung_rings (rung_by b.registry.ioevents spaces.Memory address len value) is
+    store_rings false false n address len value is = rung_rings (rung_by b.registry.ioevents Space.Memory address len value) is
 
     pub call_rings : (caller : Caller) (call : Call) → rung_on b call ≡ Some counter → RefusesOrRings (plan_on b caller call)
-    call_rings caller (calls.PortOut port len value) is = unless_rings (first_of (range_reasons b.shape (calls.PortOut port len value))) (port_out routing b.shape port len value) (port_rings (is_port port) port len value is)
-    call_rings caller (calls.Store address len value) is = unless_rings (first_of (range_reasons b.shape (calls.Store address len value))) (store routing b.shape (number_of caller) address len value) (store_rings (is_ioapic_address address) (is_lapic_address address) (number_of caller) address len value is)
+    call_rings caller (Call.PortOut port len value) is = unless_rings (first_of (range_reasons b.shape (Call.PortOut port len value))) (port_out routing b.shape port len value) (port_rings (is_port port) port len value is)
+    call_rings caller (Call.Store address len value) is = unless_rings (first_of (range_reasons b.shape (Call.Store address len value))) (store routing b.shape (number_of caller) address len value) (store_rings (is_ioapic_address address) (is_lapic_address address) (number_of caller) address len value is)
     call_rings caller _ is = cc
 
   module _ (off : is_trigger b.registry counter ≡ false) where
@@ -130,10 +117,10 @@ module _ (counter : ℕ) (b : Board) (ws : Wishes) where
     no_trigger = ap (option_map trigger_of) (none_found (has_trigger counter) b.registry.irqfds off)
 
     -- a write adds to its count, or is refused
-    write_plainly : (caller : Caller) (n : ℕ) → Plainly counter b (run (plan_on b caller (calls.Write counter n)) b ws)
-    write_plainly caller n = unless_plainly (first_of (range_reasons b.shape (calls.Write counter n))) (write routing b.shape (routing.trigger counter) counter n)
+    write_plainly : (caller : Caller) (n : ℕ) → Plainly counter b (run (plan_on b caller (Call.Write counter n)) b ws)
+    write_plainly caller n = unless_plainly (first_of (range_reasons b.shape (Call.Write counter n))) (write routing b.shape (routing.trigger counter) counter n)
         (subst (λ (trigger : Option TriggerWord). Plainly counter b (run (write routing b.shape trigger counter n) b ws)) (sym no_trigger)
-        (unless_plainly (first_of (write_reasons b.counters counter n)) (put parts.Counters (written b.counters counter n) (reply Done))
+        (unless_plainly (first_of (write_reasons b.counters counter n)) (put Part.Counters (written b.counters counter n) (reply Done))
         (record { told = refl; answers = inl refl; changes = changes_count counter _ b })))
 
     own_rings : Rings counter b (run (rung routing b.shape (Some counter)) b ws)
@@ -173,48 +160,48 @@ module _ (counter : ℕ) (b : Board) (ws : Wishes) where
     silent : (P : Type 0) (call : Call) → Lets false (λ _. true) call → TellsOnly P (plan_on b caller call)
     silent P call lets rang = absurd (none_rang (run (plan_on b caller call) b ws).log.events (call_keeps routing b.shape false (λ _. true) caller call lets b ws).allowed rang)
 
-    port_tells : (port len value : ℕ) → TellsOnly (rung_on b (calls.PortOut port len value) ≡ Some counter) (plan_on b caller (calls.PortOut port len value))
+    port_tells : (port len value : ℕ) → TellsOnly (rung_on b (Call.PortOut port len value) ≡ Some counter) (plan_on b caller (Call.PortOut port len value))
     port_tells port len value = by_port (is_port port) refl
       where
         rings : Option ℕ
-        rings = rung_by b.registry.ioevents spaces.Port port len value
+        rings = rung_by b.registry.ioevents Space.Port port len value
 
         chip : Bool → Plan (Unit {0})
-        chip t = unless_refused (first_of (range_reasons b.shape (calls.PortOut port len value))) (if t then pair_write routing b.shape port len value else ring routing b.shape spaces.Port port len value)
+        chip t = unless_refused (first_of (range_reasons b.shape (Call.PortOut port len value))) (if t then pair_write routing b.shape port len value else ring routing b.shape Space.Port port len value)
 
-        by_port : (t : Bool) → is_port port ≡ t → TellsOnly (rung_on b (calls.PortOut port len value) ≡ Some counter) (plan_on b caller (calls.PortOut port len value))
-        by_port true is = silent (rung_on b (calls.PortOut port len value) ≡ Some counter) (calls.PortOut port len value) (inl is)
+        by_port : (t : Bool) → is_port port ≡ t → TellsOnly (rung_on b (Call.PortOut port len value) ≡ Some counter) (plan_on b caller (Call.PortOut port len value))
+        by_port true is = silent (rung_on b (Call.PortOut port len value) ≡ Some counter) (Call.PortOut port len value) (inl is)
         by_port false is = subst (λ (t : Bool). TellsOnly ((if t then None else rings) ≡ Some counter) (chip t)) (sym is)
-            (unless_tells (rings ≡ Some counter) (first_of (range_reasons b.shape (calls.PortOut port len value))) (ring routing b.shape spaces.Port port len value) (rung_tells rings))
+            (unless_tells (rings ≡ Some counter) (first_of (range_reasons b.shape (Call.PortOut port len value))) (ring routing b.shape Space.Port port len value) (rung_tells rings))
 
-    store_tells : (address len value : ℕ) → TellsOnly (rung_on b (calls.Store address len value) ≡ Some counter) (plan_on b caller (calls.Store address len value))
+    store_tells : (address len value : ℕ) → TellsOnly (rung_on b (Call.Store address len value) ≡ Some counter) (plan_on b caller (Call.Store address len value))
     store_tells address len value = by_address (is_ioapic_address address) (is_lapic_address address) refl refl
       where
         rings : Option ℕ
-        rings = rung_by b.registry.ioevents spaces.Memory address len value
+        rings = rung_by b.registry.ioevents Space.Memory address len value
 
         chip : Bool → Bool → Plan (Unit {0})
-        chip t u = unless_refused (first_of (range_reasons b.shape (calls.Store address len value)))
-            (if t then ioapic_store b.shape (address - 0xfec00000) len value else if u then lapic_store routing b.shape (number_of caller) (address - 0xfee00000) len value else ring routing b.shape spaces.Memory address len value)
+        chip t u = unless_refused (first_of (range_reasons b.shape (Call.Store address len value)))
+            (if t then ioapic_store b.shape (address - 0xfec00000) len value else if u then lapic_store routing b.shape (number_of caller) (address - 0xfee00000) len value else ring routing b.shape Space.Memory address len value)
 
-        by_address : (t u : Bool) → is_ioapic_address address ≡ t → is_lapic_address address ≡ u → TellsOnly (rung_on b (calls.Store address len value) ≡ Some counter) (plan_on b caller (calls.Store address len value))
-        by_address true u is at = silent (rung_on b (calls.Store address len value) ≡ Some counter) (calls.Store address len value) (inl (ap (λ t. t || is_lapic_address address) is))
-        by_address false true is at = silent (rung_on b (calls.Store address len value) ≡ Some counter) (calls.Store address len value) (inl (or_right (is_ioapic_address address) (is_lapic_address address) at))
+        by_address : (t u : Bool) → is_ioapic_address address ≡ t → is_lapic_address address ≡ u → TellsOnly (rung_on b (Call.Store address len value) ≡ Some counter) (plan_on b caller (Call.Store address len value))
+        by_address true u is at = silent (rung_on b (Call.Store address len value) ≡ Some counter) (Call.Store address len value) (inl (ap (λ t. t || is_lapic_address address) is))
+        by_address false true is at = silent (rung_on b (Call.Store address len value) ≡ Some counter) (Call.Store address len value) (inl (or_right (is_ioapic_address address) (is_lapic_address address) at))
         by_address false false is at = subst (λ (x : Bool × Bool). TellsOnly ((if x.0 || x.1 then None else rings) ≡ Some counter) (chip x.0 x.1)) (λ i. (sym is i, sym at i))
-            (unless_tells (rings ≡ Some counter) (first_of (range_reasons b.shape (calls.Store address len value))) (ring routing b.shape spaces.Memory address len value) (rung_tells rings))
+            (unless_tells (rings ≡ Some counter) (first_of (range_reasons b.shape (Call.Store address len value))) (ring routing b.shape Space.Memory address len value) (rung_tells rings))
 
-    tick_silent : (P : Type 0) → TellsOnly P (plan_on b caller calls.Tick)
+    tick_silent : (P : Type 0) → TellsOnly P (plan_on b caller Call.Tick)
     tick_silent P rang =
-        let during = with_part b parts.Tick (ticked b.tick) in
-        absurd (none_rang (run (plan_on b caller calls.Tick) b ws).log.events (tick_keeps routing b.shape false (λ _. true) (ticked b.tick) (tick_injects b.tick) during ws).allowed rang)
+        let during = with_part b Part.Tick (ticked b.tick) in
+        absurd (none_rang (run (plan_on b caller Call.Tick) b ws).log.events (tick_keeps routing b.shape false (λ _. true) (ticked b.tick) (tick_injects b.tick) during ws).allowed rang)
 
     -- whatever the call is
     pub call_tells : (call : Call) → TellsOnly (rung_on b call ≡ Some counter) (plan_on b caller call)
-    call_tells (calls.PortOut port len value) = port_tells port len value
-    call_tells (calls.Store address len value) = store_tells address len value
-    call_tells calls.Tick = tick_silent (None ≡ Some counter)
-    call_tells (calls.TickMode reinject) = λ rang. absurd (no_member (Rang counter) rang)
-    call_tells (calls.Assign trigger gsi resample) = silent (None ≡ Some counter) (calls.Assign trigger gsi resample) refl
+    call_tells (Call.PortOut port len value) = port_tells port len value
+    call_tells (Call.Store address len value) = store_tells address len value
+    call_tells Call.Tick = tick_silent (None ≡ Some counter)
+    call_tells (Call.TickMode reinject) = λ rang. absurd (no_member (Rang counter) rang)
+    call_tells (Call.Assign trigger gsi resample) = silent (None ≡ Some counter) (Call.Assign trigger gsi resample) refl
     call_tells call = silent (rung_on b call ≡ Some counter) call tt
 
 -- ---- a step

@@ -1,19 +1,6 @@
 -- A call that is answered with a status says what its status tells, and one without effect leaves the requests.
-use Rattle.board_step.proofs.Basics.{◌≡◌, ℕ, Bool, true, false, nat_eq, if◌then◌else◌, ◌⊎◌, inl, inr, List, [], ◌∷◌, option_map, refl, sym, ap, ◌∙◌, subst, true≢false, Some, None, Option}
-use Rattle.board_step.proofs.Types.calls
-use Rattle.board_step.proofs.Types.parts
-use Rattle.board_step.proofs.Types.raises
-use Rattle.board_step.proofs.Types.{first_of, Call, Caller, MsiWord, Source, Line, Resample, Targets, Refusal, Reply, Signal, Done, Lapic, Masked, Status, Raise, TickState, TriggerWord}
-use Rattle.board_step.proofs.Chips.{raise_of, pin_outcome, message_in, ticked, tick_injects, tick_injected}
-use Rattle.board_step.proofs.Plans.{Board, part_of, PicPart, IoapicPart, pair_of, ioapic_of, Routing, routing_of_registry, nobody, TargetAnswer, stood_already, no_effect, status_of, About, the_reply, done, change, reply, ◌>>◌, Wishes, Outcome, run}
-use Rattle.board_step.proofs.Calls.{send, pic_raised, pic_answer, ioapic_raised, is_accepted, accept_pin, ioapic_answered, raise_other, raise, let_go, let_go_after, lowered_status, lower, inject, HasProcessors, range_reasons, unless_refused, source_of, trigger_written, write, tick_or_hold, number_of, plan_in_range}
-use Rattle.irq_base.specs.declared.message.Source.TheVariants.{Tick}
-use Rattle.irq_base.specs.declared.status.Status.TheVariants.{Lowered}
-use Rattle.board_step.specs.Step.{plan_on, outcome_of, with_counts, would_publish}
-use Rattle.board_laws.specs.Effect.{message_target, signal_targets, message_raised, pic_answer_on, raise_answer_on, IsSaidOf, is_without_effect, ChangesNoRequest, CoalescedAndIgnoredChangeNoRequest}
+use Rattle.board_laws.proofs.Basics.{Holds, ended, after, changed, Signals, accept_pin_holds, let_go_holds, ◌≡◌, ℕ, Bool, true, false, nat_eq, if◌then◌else◌, ◌⊎◌, inl, inr, List, [], ◌∷◌, option_map, refl, sym, ap, ◌∙◌, subst, true≢false, Some, None, Option, first_of, Call, Caller, MsiWord, Source, Line, Resample, Targets, Refusal, Reply, Signal, Done, Lapic, Masked, Status, Raise, TickState, TriggerWord, raise_of, pin_outcome, message_in, ticked, tick_injects, tick_injected, Board, part_of, PicPart, IoapicPart, pair_of, ioapic_of, Routing, routing_of_registry, nobody, TargetAnswer, stood_already, no_effect, status_of, About, the_reply, done, change, reply, ◌>>◌, Wishes, Outcome, run, send, pic_raised, pic_answer, ioapic_raised, is_accepted, accept_pin, ioapic_answered, raise_other, raise, let_go, let_go_after, lowered_status, lower, inject, HasProcessors, range_reasons, unless_refused, source_of, trigger_written, write, tick_or_hold, number_of, plan_in_range, TickSource as Tick, Lowered, plan_on, outcome_of, with_counts, would_publish, Part, message_target, signal_targets, message_raised, pic_answer_on, raise_answer_on, IsSaidOf, is_without_effect, ChangesNoRequest, CoalescedAndIgnoredChangeNoRequest}
 use Rattle.board_laws.proofs.EffectStood.{raise_stood, raised_stood}
-use Rattle.board_step.proofs.Walk.{Holds, ended, after, changed}
-use Rattle.board_step.proofs.WalkSignals.{Signals, accept_pin_holds, let_go_holds}
 use Rattle.board_laws.proofs.EffectMute.{mute, count_mute, call_mute, some_status}
 use Rattle.board_laws.proofs.EffectSends.{spared, Says, says_before, says_after, shown_says, send_says}
 
@@ -43,12 +30,12 @@ module _ (b : Board) (stand : HasProcessors b b.shape.cpus) where
 
     answered_says : (pin : ℕ) (msi : Option MsiWord) (w : IoapicPart) (raised : Raise) → raise_of (ioapic_of b.ioapic) pin ≡ raised → (ws : Wishes)
         → Says b (at (Some pin) msi) (run (ioapic_answered b.shape.cpus pin (shown (pic_answer_on b pic)) raised) (record c { ioapic = w }) ws)
-    answered_says pin msi w raises.Masked is ws =
+    answered_says pin msi w Raise.Masked is ws =
         shown_says b stand (at (Some pin) msi) u v w (Some (no_effect Masked)) (Some (no_effect Masked)) ws (sym (ap (λ r. Some (raise_answer_on b b.shape.cpus r)) is))
-    answered_says pin msi w raises.Stood is ws =
+    answered_says pin msi w Raise.Stood is ws =
         let found = raised_stood b.ioapic pin (ap raise_stood is) in
         shown_says b stand (at (Some pin) msi) u v w (Some stood_already) (Some stood_already) ws (inl (record { pin = pin; there = refl; unmasked = found.0; stood = found.1 }))
-    answered_says pin msi w (raises.Send message) is ws =
+    answered_says pin msi w (Raise.Send message) is ws =
         says_before b (at (Some pin) msi) (λ answer. accept_pin pin (is_accepted message answer) >> done (Some answer)) (send b.shape.cpus message None (shown (pic_answer_on b pic))) (record c { ioapic = w }) ws
         (send_says b stand (at (Some pin) msi) u v w message (ap message_raised is) (ap (λ r. Some (raise_answer_on b b.shape.cpus r)) is) ws)
         (λ answer. after (spared b) (accept_pin pin (is_accepted message answer)) (done (Some answer)) (accept_pin_holds (spared b) 0 (signals b) pin (is_accepted message answer)) (ended (spared b) (Some answer)))
@@ -111,7 +98,7 @@ module _ (b : Board) (stand : HasProcessors b b.shape.cpus) where
   abbrev Judged : Call → Outcome (Unit {0}) → Type 0
   Judged call o = Answered call o ⊎ (some_status o.log.answers ≡ false)
 
-  line_judged : (gsi line : ℕ) (high : Bool) (n : ℕ) (ws : Wishes) → Answered (calls.Line gsi line high) (run (plan_in_range routing b.shape n (calls.Line gsi line high)) b ws)
+  line_judged : (gsi line : ℕ) (high : Bool) (n : ℕ) (ws : Wishes) → Answered (Call.Line gsi line high) (run (plan_in_range routing b.shape n (Call.Line gsi line high)) b ws)
   line_judged gsi line true n ws = record {
     targets = routing.targets gsi;
     signalled = refl;
@@ -119,7 +106,7 @@ module _ (b : Board) (stand : HasProcessors b b.shape.cpus) where
   }
   line_judged gsi line false n ws = record { targets = routing.targets gsi; signalled = refl; says = lower_says (routing.targets gsi) (Line line) ws }
 
-  message_judged : (address payload n : ℕ) (ws : Wishes) → Answered (calls.Msi address payload) (run (plan_in_range routing b.shape n (calls.Msi address payload)) b ws)
+  message_judged : (address payload n : ℕ) (ws : Wishes) → Answered (Call.Msi address payload) (run (plan_in_range routing b.shape n (Call.Msi address payload)) b ws)
   message_judged address payload n ws = record {
     targets = message_target address payload;
     signalled = refl;
@@ -127,9 +114,9 @@ module _ (b : Board) (stand : HasProcessors b b.shape.cpus) where
         (send_says b stand (message_target address payload) b.tick b.pic b.ioapic (message_in address payload) refl refl ws) (λ _ c vs fit. (refl, λ same. same));
   }
 
-  write_judged : (counter count : ℕ) (trigger : Option TriggerWord) → routing.trigger counter ≡ trigger → (ws : Wishes) → Judged (calls.Write counter count) (run (write routing b.shape trigger counter count) b ws)
+  write_judged : (counter count : ℕ) (trigger : Option TriggerWord) → routing.trigger counter ≡ trigger → (ws : Wishes) → Judged (Call.Write counter count) (run (write routing b.shape trigger counter count) b ws)
   write_judged counter count None is ws = inr (count_mute routing b.shape counter count b ws tt)
-  write_judged counter count (Some trigger) is ws = elim (nat_eq count 0) as (λ t. Judged (calls.Write counter count) (run (if t then reply Done else trigger_written routing b.shape trigger) b ws)) [
+  write_judged counter count (Some trigger) is ws = elim (nat_eq count 0) as (λ t. Judged (Call.Write counter count) (run (if t then reply Done else trigger_written routing b.shape trigger) b ws)) [
     | true ↦ inr refl
     | false ↦ inl (record {
       targets = routing.targets trigger.gsi;
@@ -139,12 +126,12 @@ module _ (b : Board) (stand : HasProcessors b b.shape.cpus) where
     })
   ]
 
-  tick_judged : (injects : Bool) (ws : Wishes) → Judged calls.Tick (run (tick_or_hold routing b.shape (ticked b.tick) injects) (record b { tick = ticked b.tick }) ws)
+  tick_judged : (injects : Bool) (ws : Wishes) → Judged Call.Tick (run (tick_or_hold routing b.shape (ticked b.tick) injects) (record b { tick = ticked b.tick }) ws)
   tick_judged true ws = inl (record {
     targets = routing.targets b.shape.tick;
     signalled = refl;
-    says = says_before b (routing.targets b.shape.tick) (λ status. change parts.Tick (λ tick. tick_injected tick status)) (inject b.shape.cpus (routing.targets b.shape.tick) Tick shown) (record b { tick = ticked b.tick }) ws
-        (inject_says (ticked b.tick) Tick ws (routing.targets b.shape.tick)) (λ status. changed (spared b) parts.Tick (λ tick. tick_injected tick status) (λ c fit. tt));
+    says = says_before b (routing.targets b.shape.tick) (λ status. change Part.Tick (λ tick. tick_injected tick status)) (inject b.shape.cpus (routing.targets b.shape.tick) Tick shown) (record b { tick = ticked b.tick }) ws
+        (inject_says (ticked b.tick) Tick ws (routing.targets b.shape.tick)) (λ status. changed (spared b) Part.Tick (λ tick. tick_injected tick status) (λ c fit. tt));
   })
   tick_judged false ws = inr refl
 
@@ -152,10 +139,10 @@ module _ (b : Board) (stand : HasProcessors b b.shape.cpus) where
   mute_judged n call ws h = inr (h b ws tt)
 
   range_judged : (n : ℕ) (call : Call) (ws : Wishes) → Judged call (run (plan_in_range routing b.shape n call) b ws)
-  range_judged n (calls.Line gsi line high) ws = inl (line_judged gsi line high n ws)
-  range_judged n (calls.Msi address payload) ws = inl (message_judged address payload n ws)
-  range_judged n (calls.Write counter count) ws = write_judged counter count (routing.trigger counter) refl ws
-  range_judged n calls.Tick ws = tick_judged (tick_injects b.tick) ws
+  range_judged n (Call.Line gsi line high) ws = inl (line_judged gsi line high n ws)
+  range_judged n (Call.Msi address payload) ws = inl (message_judged address payload n ws)
+  range_judged n (Call.Write counter count) ws = write_judged counter count (routing.trigger counter) refl ws
+  range_judged n Call.Tick ws = tick_judged (tick_injects b.tick) ws
   range_judged n call ws = mute_judged n call ws (call_mute routing b.shape n call refl)
 
   call_judged : (caller : Caller) (call : Call) (ws : Wishes) → Judged call (run (plan_on b caller call) b ws)

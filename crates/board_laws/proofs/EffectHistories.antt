@@ -1,17 +1,6 @@
 -- Along every legal history each processor has its local APIC, and a status without effect changes no request.
-use Rattle.board_step.proofs.Basics.{◌≡◌, Bool, length, refl, sym, ap, ◌∙◌, subst, arith}
-use Rattle.board_step.proofs.Types.{Entry, Shape, Masked}
-use Rattle.board_step.proofs.Plans.{Board}
-use Rattle.board_step.proofs.Calls.{HasProcessors}
-use Rattle.irq_base.specs.declared.status.Status.TheVariants.{Ignored}
-use Rattle.board_model.proofs.Staying.{frame_stays}
-use Rattle.board_step.specs.Sound.{LapicsStand}
-use Rattle.board_step.specs.Step.{plan_on, outcome_of, with_counts, would_publish, Step}
-use Rattle.board_step.specs.History.{opening}
-use Rattle.board_laws.specs.Points.{Point, board_at, board_left, IsLegal, OfLegalHistories}
-use Rattle.board_laws.specs.Effect.{EffectlessChangesNoRequest, MaskedMeetsMask, LapicsStayInPlace, StatusesWithoutEffectChangeNoRequest, IgnoredMaskedIsMasked}
+use Rattle.board_laws.proofs.Basics.{◌≡◌, Bool, length, refl, sym, ap, ◌∙◌, subst, arith, Entry, Shape, Masked, Board, HasProcessors, Ignored, frame_stays, LapicsStand, plan_on, outcome_of, with_counts, would_publish, Step, opening, Point, board_at, board_left, IsLegal, OfLegalHistories, EffectlessChangesNoRequest, MaskedMeetsMask, LapicsStayInPlace, StatusesWithoutEffectChangeNoRequest, IgnoredMaskedIsMasked, apics_many}
 use Rattle.board_laws.proofs.Points.{step_at, holds_at, at_points}
-use Rattle.board_step.proofs.SoundOpening.{apics_many}
 use Rattle.board_laws.proofs.PendingHistory.{opening_fine, step_stands}
 use Rattle.board_laws.proofs.EffectStood.{masked_only}
 use Rattle.board_laws.proofs.EffectCalls.{coalesced_and_ignored_change_no_request}

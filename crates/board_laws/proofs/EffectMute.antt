@@ -1,16 +1,5 @@
 -- The calls that answer no status: every call but a line, a message, a write and a tick.
-use Rattle.board_step.proofs.Basics.{◌≡◌, ℕ, Bool, true, false, if◌then◌else◌, List, [], ◌∷◌, refl, ap, true≢false, None, ◌++◌, Option}
-use Rattle.board_step.proofs.Types.calls
-use Rattle.board_step.proofs.Types.{Call, Reply, Shape}
-use Rattle.board_step.proofs.Plans.{Routing, About, injected, resent, ipi, the_reply, reply, next_wish, later_wishes}
-use Rattle.board_step.proofs.Calls.{resample, write, rung, io_row, plan_in_range}
-use Rattle.board_raise.proofs.Manner.{in_reply}
-use Rattle.board_step.proofs.CallManner.{replies_in}
-use Rattle.board_step.proofs.Walk.{Walk, Holds}
-use Rattle.board_step.proofs.WalkSignals.{Shows}
-use Rattle.board_step.proofs.WalkAcks.{end_level_holds, Tells, tells_by, Ends, acks_hold, inject_tick_holds}
-use Rattle.board_step.proofs.WalkOpen.{Open, of_log, open_signals, open_shows, open_raise, open_accesses, open_rings}
-use Rattle.board_step.proofs.WalkCalls.{is_signal, Accesses, count_holds, inject_count_holds, rung_holds, take_holds, assign_holds, deassign_holds, reroute_holds, attach_holds, detach_holds, watch_holds, unwatch_holds, tick_mode_holds, port_out_holds, port_in_holds, store_holds, load_holds, next_holds, inta_holds, eoi_holds}
+use Rattle.board_laws.proofs.Basics.{Walk, Holds, Shows, end_level_holds, Tells, tells_by, Ends, acks_hold, inject_tick_holds, Open, of_log, open_signals, open_shows, open_raise, open_accesses, open_rings, is_signal, Accesses, count_holds, inject_count_holds, rung_holds, take_holds, assign_holds, deassign_holds, reroute_holds, attach_holds, detach_holds, watch_holds, unwatch_holds, tick_mode_holds, port_out_holds, port_in_holds, store_holds, load_holds, next_holds, inta_holds, eoi_holds, ◌≡◌, ℕ, Bool, true, false, if◌then◌else◌, List, [], ◌∷◌, refl, ap, true≢false, None, ◌++◌, Option, Call, Reply, Shape, Routing, About, injected, resent, ipi, the_reply, reply, next_wish, later_wishes, resample, write, rung, io_row, plan_in_range, in_reply, replies_in}
 
 -- whether some reply is a status
 abbrev pub some_status : List Reply → Bool
@@ -64,21 +53,21 @@ module _ (routing : Routing) (shape : Shape) where
 
   -- each call whose sendings do not show in the reply
   pub call_mute : (n : ℕ) (call : Call) → replies_in call ≡ false → Holds mute (plan_in_range routing shape n call)
-  call_mute n (calls.Take counter) e = take_holds mute routing shape replies counter (λ b fit. tt)
-  call_mute n (calls.Assign trigger gsi resample) e = assign_holds mute routing shape replies (λ r b fit. tt) trigger gsi resample (λ counts b fit. tt)
+  call_mute n (Call.Take counter) e = take_holds mute routing shape replies counter (λ b fit. tt)
+  call_mute n (Call.Assign trigger gsi resample) e = assign_holds mute routing shape replies (λ r b fit. tt) trigger gsi resample (λ counts b fit. tt)
       (inject_count_holds mute routing shape (open_signals mute is_open) gsi resample (open_raise mute is_open _ _) (λ pic. shows (injected gsi pic) refl))
-  call_mute n (calls.Deassign trigger gsi) e = deassign_holds mute routing shape replies (λ r b fit. tt) (open_signals mute is_open) trigger gsi
-  call_mute n (calls.Reroute rows) e = reroute_holds mute routing shape replies (λ r b fit. tt) (λ holds b fit. tt) (λ holds b fit. tt) rows
-  call_mute n (calls.Attach space address len counter want) e = attach_holds mute routing shape replies (λ r b fit. tt) (io_row space address len counter want)
-  call_mute n (calls.Detach space address len counter want) e = detach_holds mute routing shape replies (λ r b fit. tt) (io_row space address len counter want)
-  call_mute n (calls.Watch counter gsi) e = watch_holds mute routing shape replies (λ r b fit. tt) counter gsi
-  call_mute n (calls.Unwatch counter gsi) e = unwatch_holds mute routing shape replies (λ r b fit. tt) counter gsi
-  call_mute n (calls.TickMode reinject) e = tick_mode_holds mute routing shape replies reinject (λ b fit. tt)
-  call_mute n (calls.PortOut port len value) e = port_out_holds mute routing shape accesses rings port len value
-  call_mute n (calls.PortIn port len) e = port_in_holds mute routing shape accesses port len
-  call_mute n (calls.Store address len value) e = store_holds mute routing shape accesses rings n address len value
-  call_mute n (calls.Load address len) e = load_holds mute routing shape accesses n address len
-  call_mute n calls.Ack e = next_holds mute routing shape accesses (λ n b fit. tt) (λ n b fit. tt) n
-  call_mute n calls.Inta e = inta_holds mute routing shape accesses
-  call_mute n calls.Eoi e = eoi_holds mute routing shape accesses n
+  call_mute n (Call.Deassign trigger gsi) e = deassign_holds mute routing shape replies (λ r b fit. tt) (open_signals mute is_open) trigger gsi
+  call_mute n (Call.Reroute rows) e = reroute_holds mute routing shape replies (λ r b fit. tt) (λ holds b fit. tt) (λ holds b fit. tt) rows
+  call_mute n (Call.Attach space address len counter want) e = attach_holds mute routing shape replies (λ r b fit. tt) (io_row space address len counter want)
+  call_mute n (Call.Detach space address len counter want) e = detach_holds mute routing shape replies (λ r b fit. tt) (io_row space address len counter want)
+  call_mute n (Call.Watch counter gsi) e = watch_holds mute routing shape replies (λ r b fit. tt) counter gsi
+  call_mute n (Call.Unwatch counter gsi) e = unwatch_holds mute routing shape replies (λ r b fit. tt) counter gsi
+  call_mute n (Call.TickMode reinject) e = tick_mode_holds mute routing shape replies reinject (λ b fit. tt)
+  call_mute n (Call.PortOut port len value) e = port_out_holds mute routing shape accesses rings port len value
+  call_mute n (Call.PortIn port len) e = port_in_holds mute routing shape accesses port len
+  call_mute n (Call.Store address len value) e = store_holds mute routing shape accesses rings n address len value
+  call_mute n (Call.Load address len) e = load_holds mute routing shape accesses n address len
+  call_mute n Call.Ack e = next_holds mute routing shape accesses (λ n b fit. tt) (λ n b fit. tt) n
+  call_mute n Call.Inta e = inta_holds mute routing shape accesses
+  call_mute n Call.Eoi e = eoi_holds mute routing shape accesses n
   call_mute n _ e = absurd (true≢false e)

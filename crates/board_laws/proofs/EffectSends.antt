@@ -1,24 +1,6 @@
 -- A sending whose status is without effect: what the status says, and that it changes no request.
-use Rattle.board_step.proofs.Basics.set
-use Rattle.board_step.proofs.Basics.{◌≡◌, ℕ, zero, suc, ◌<◌, Bool, true, false, not, ◌&&◌, ◌||◌, nat_eq, nat_lt, if◌then◌else◌, ◌⊎◌, inl, inr, List, [], ◌∷◌, ◌++◌, length, refl, sym, ap, ◌∙◌, subst, append-nil, true≢false, arith, Some, None, slice_get, slice_set, unwrap_or, Option, contains-empty, same_set, nat_cmp-IsAntisymmetric, nat_cmp, nat_cmp_total}
-use Rattle.board_step.proofs.Types.outcomes
-use Rattle.board_step.proofs.Types.{Numbers, contains-insert_number, Message, Targets, Signal, Part, Registry, Counters, Tick, Pic, Ioapic, Lapic, Cause, NoProcessor, BadVector, BadMode, Status, Chip, PinOutcome, Pair, TickState}
-use Rattle.board_step.proofs.Chips.{pin_outcome, LocalApic, power_on, is_enabled, is_nmi, is_taken, accepted, with_error, with_request}
-use Rattle.board_step.proofs.Plans.{ValueOf, Board, part_of, with_part, PicPart, IoapicPart, pair_of, Sent, nobody, is_empty, TargetAnswer, newly_taken, stood_already, no_effect, message_answer, status_of, About, the_reply, Plan, done, put, answer, ◌>>=◌, Wishes, Outcome, run}
-use Rattle.board_step.proofs.Calls.{Processor, named_by, numbers_of, MayReach, ignore, numbers_below, reached_by, see_each, is_illegal, accept_each, deliver, refuse_vector, send_to, send, pic_answer, processors_on, named_on, HasProcessors, IsSending, has_request_on}
-use Rattle.std.proofs.Common.{is_some}
-use Rattle.irq_base.specs.declared.message.Mode.{Mode}
-use Rattle.irq_base.specs.declared.message.Mode.TheVariants.{Lowest}
-use Rattle.pic_8259a.specs.Accesses.{outcome_of as chip_outcome}
-use Rattle.board_model.specs.Statuses.{stands}
-use Rattle.board_model.proofs.Lens.{part_of-with_other}
-use Rattle.board_model.proofs.Sequence.{run-bind}
-use Rattle.board_raise.specs.Laws.{IsSent}
-use Rattle.board_raise.proofs.SendExactly.{after_seen, wishes_reach_exactly}
-use Rattle.board_raise.proofs.EffectNamed.{has_any, named_alike}
-use Rattle.board_laws.specs.Effect.{message_on, PicStood, IoapicStood, RequestStood, pic_answer_on, message_answer_by, message_answer_on, other_answer_on, IsSaidOf, is_without_effect, SameRequests}
+use Rattle.board_laws.proofs.Basics.{Walk, Holds, of_relation, either, ◌≡◌, ℕ, zero, suc, ◌<◌, Bool, true, false, not, ◌&&◌, ◌||◌, nat_eq, nat_lt, if◌then◌else◌, ◌⊎◌, inl, inr, List, [], ◌∷◌, ◌++◌, length, refl, sym, ap, ◌∙◌, subst, append-nil, true≢false, arith, Some, None, slice_get, slice_set, unwrap_or, Option, contains-empty, same_set, nat_cmp-IsAntisymmetric, nat_cmp, nat_cmp_total, Numbers, contains-insert_number, Message, Targets, Signal, Part, Registry, Counters, Tick, Pic, Ioapic, Lapic, Cause, NoProcessor, BadVector, BadMode, Status, Chip, PinOutcome, Pair, TickState, pin_outcome, LocalApic, power_on, is_enabled, is_nmi, is_taken, accepted, with_error, with_request, ValueOf, Board, part_of, with_part, PicPart, IoapicPart, pair_of, Sent, nobody, is_empty, TargetAnswer, newly_taken, stood_already, no_effect, message_answer, status_of, About, the_reply, Plan, done, put, answer, ◌>>=◌, Wishes, Outcome, run, Processor, named_by, numbers_of, MayReach, ignore, numbers_below, reached_by, see_each, is_illegal, accept_each, deliver, refuse_vector, send_to, send, pic_answer, processors_on, named_on, HasProcessors, IsSending, has_request_on, is_some, Mode, Lowest, chip_outcome, stands, part_of-with_other, run-bind, IsSent, after_seen, wishes_reach_exactly, has_any, named_alike, message_on, PicStood, IoapicStood, RequestStood, pic_answer_on, message_answer_by, message_answer_on, other_answer_on, IsSaidOf, is_without_effect, SameRequests, contains, insert, empty_of_len, empty}
 use Rattle.board_laws.proofs.EffectStood.{has_stood, pin_stood, ignored_for}
-use Rattle.board_step.proofs.Walk.{Walk, Holds, of_relation, either}
 
 -- ---- plans that answer nothing and leave the requests of a board
 
@@ -92,7 +74,7 @@ module _ (b : Board) (targets : Targets) {A B : Type 0} (f : A → Plan B) (m : 
 
 -- a pin that is raised is not lowered
 abbrev is_lowered : PinOutcome → Bool
-is_lowered outcomes.Lowered = true
+is_lowered PinOutcome.Lowered = true
 is_lowered _ = false
 
 chip_never_lowers : (c : Chip) (pin : ℕ) → is_lowered (chip_outcome c pin true) ≡ false
@@ -107,10 +89,10 @@ module _ (b : Board) (targets : Targets) where
   pic_stood (Some pin) there says = of_outcome (pin_outcome (pair_of b.pic) pin true) refl (sym (ap stands says))
     where
       of_outcome : (o : PinOutcome) → pin_outcome (pair_of b.pic) pin true ≡ o → stands (Some (pic_answer o)) ≡ true → PicStood b targets
-      of_outcome outcomes.New is h = absurd (true≢false (sym h))
-      of_outcome outcomes.Stood is h = let found = pin_stood b.pic pin (ap has_stood is) in record { pin = pin; there = there; unmasked = found.0; stood = found.1 }
-      of_outcome outcomes.Masked is h = absurd (true≢false (sym h))
-      of_outcome outcomes.Lowered is h = absurd (true≢false (sym (ap is_lowered is) ∙ never_lowers (pair_of b.pic) pin))
+      of_outcome PinOutcome.New is h = absurd (true≢false (sym h))
+      of_outcome PinOutcome.Stood is h = let found = pin_stood b.pic pin (ap has_stood is) in record { pin = pin; there = there; unmasked = found.0; stood = found.1 }
+      of_outcome PinOutcome.Masked is h = absurd (true≢false (sym h))
+      of_outcome PinOutcome.Lowered is h = absurd (true≢false (sym (ap is_lowered is) ∙ never_lowers (pair_of b.pic) pin))
 
   -- what the other target's answer says, the request standing at these processors
   abbrev pub OtherSays : Option TargetAnswer → Numbers → Type 0
@@ -139,16 +121,16 @@ newly_has_effect pic sent = grind arith
 -- ---- what a local APIC keeps of its requests
 
 -- what is there already is not put in
-insert_there : (s : Numbers) (k : ℕ) → set.contains s k ≡ true → set.insert s k ≡ s
+insert_there : (s : Numbers) (k : ℕ) → contains s k ≡ true → insert s k ≡ s
 insert_there s k there = same_set nat_cmp_total nat_cmp-IsAntisymmetric _ _ (λ q. contains-insert_number s k q ∙ at q)
   where
-    at : (q : ℕ) → (nat_eq q k || set.contains s q) ≡ set.contains s q
-    at q = elim (nat_eq q k) as (λ t. nat_eq q k ≡ t → (t || set.contains s q) ≡ set.contains s q) [
-      | true ↦ λ is. let e : q ≡ k = grind (is, arith) in sym (ap (set.contains s) e ∙ there)
+    at : (q : ℕ) → (nat_eq q k || contains s q) ≡ contains s q
+    at q = elim (nat_eq q k) as (λ t. nat_eq q k ≡ t → (t || contains s q) ≡ contains s q) [
+      | true ↦ λ is. let e : q ≡ k = grind (is, arith) in sym (ap (contains s) e ∙ there)
       | false ↦ λ _. refl
     ] refl
 
-by_tests : (a : LocalApic) (m : Message) (nmi enabled low : Bool) → (if nmi then a.nmi else set.contains a.irr m.vector) ≡ true
+by_tests : (a : LocalApic) (m : Message) (nmi enabled low : Bool) → (if nmi then a.nmi else contains a.irr m.vector) ≡ true
     → (if nmi then record a { nmi = true } else if not enabled then a else if low then with_error a 6 else with_request a m).irr ≡ a.irr
 by_tests a m true enabled low has = refl
 by_tests a m false false low has = refl
@@ -156,7 +138,7 @@ by_tests a m false true true has = refl
 by_tests a m false true false has = insert_there a.irr m.vector has
 
 -- a message whose request is there changes no request
-had_stays : (a : LocalApic) (m : Message) → (if is_nmi m.mode then a.nmi else set.contains a.irr m.vector) ≡ true → (accepted a m).irr ≡ a.irr
+had_stays : (a : LocalApic) (m : Message) → (if is_nmi m.mode then a.nmi else contains a.irr m.vector) ≡ true → (accepted a m).irr ≡ a.irr
 had_stays a m has = by_tests a m (is_nmi m.mode) (is_enabled a) (nat_lt m.vector 16) has
 
 -- nor does a message with an illegal vector
@@ -166,25 +148,25 @@ illegal_stays a m h1 = grind arith
 -- ---- a sending
 
 -- a set that may be reached has a member
-someone_reached : (mode : Mode) (p : Processor) (ps : List Processor) (s : Numbers) → MayReach mode (p ∷ ps) s → (k : ℕ) × (set.contains s k ≡ true)
+someone_reached : (mode : Mode) (p : Processor) (ps : List Processor) (s : Numbers) → MayReach mode (p ∷ ps) s → (k : ℕ) × (contains s k ≡ true)
 someone_reached mode p ps s may = of_mode mode may
   where
-    first : s ≡ numbers_of (p ∷ ps) → (k : ℕ) × (set.contains s k ≡ true)
-    first is = (p.number, ap (λ t. set.contains t p.number) is ∙ contains-insert_number (numbers_of ps) p.number p.number ∙ itself p.number (set.contains (numbers_of ps) p.number))
+    first : s ≡ numbers_of (p ∷ ps) → (k : ℕ) × (contains s k ≡ true)
+    first is = (p.number, ap (λ t. contains t p.number) is ∙ contains-insert_number (numbers_of ps) p.number p.number ∙ itself p.number (contains (numbers_of ps) p.number))
       where
         itself : (n : ℕ) (t : Bool) → (nat_eq n n || t) ≡ true
         itself n t = grind arith
 
-    of_mode : (mode : Mode) → MayReach mode (p ∷ ps) s → (k : ℕ) × (set.contains s k ≡ true)
-    of_mode Lowest (k, q, below, at, one) = (q.number, ap (λ t. set.contains t q.number) one.alone ∙ contains-insert_number set.empty q.number q.number ∙ itself q.number (set.contains set.empty q.number))
+    of_mode : (mode : Mode) → MayReach mode (p ∷ ps) s → (k : ℕ) × (contains s k ≡ true)
+    of_mode Lowest (k, q, below, at, one) = (q.number, ap (λ t. contains t q.number) one.alone ∙ contains-insert_number empty q.number q.number ∙ itself q.number (contains empty q.number))
       where
         itself : (n : ℕ) (t : Bool) → (nat_eq n n || t) ≡ true
         itself n t = grind arith
     of_mode _ is = first is
 
 -- an empty set has no member
-no_member : (s : Numbers) (k : ℕ) → is_empty s ≡ true → set.contains s k ≡ false
-no_member s k none = let e : s ≡ set.empty = set.empty_of_len s (grind (none, arith)) in ap (λ t. set.contains t k) e ∙ contains-empty nat_cmp k
+no_member : (s : Numbers) (k : ℕ) → is_empty s ≡ true → contains s k ≡ false
+no_member s k none = let e : s ≡ empty = empty_of_len s (grind (none, arith)) in ap (λ t. contains t k) e ∙ contains-empty nat_cmp k
 
 module _ (b : Board) (stand : HasProcessors b b.shape.cpus) (targets : Targets) (u : TickState) (v : PicPart) (w : IoapicPart) where
   -- the board, but for the tick, the pair and the I/O APIC
@@ -201,7 +183,7 @@ module _ (b : Board) (stand : HasProcessors b b.shape.cpus) (targets : Targets) 
   about = the_reply (pic_answer_on b targets.pic)
 
   -- a target answers without a message sent
-  pub shown_says : {A : Type 0} (a : A) (other : Option TargetAnswer) (ws : Wishes) → OtherSays b targets other set.empty → Says b targets (run (answer (Signal (status_of (pic_answer_on b targets.pic) other nobody)) (done a)) d ws)
+  pub shown_says : {A : Type 0} (a : A) (other : Option TargetAnswer) (ws : Wishes) → OtherSays b targets other empty → Says b targets (run (answer (Signal (status_of (pic_answer_on b targets.pic) other nobody)) (done a)) d ws)
   shown_says a other ws says = record {
     status = status_of (pic_answer_on b targets.pic) other nobody;
     answers = refl;
@@ -216,7 +198,7 @@ module _ (b : Board) (stand : HasProcessors b b.shape.cpus) (targets : Targets) 
     f processors = send_to message None about processors (named_by message None processors)
 
     -- the cause that is told is the one by the rule
-    cause_says : (cause : Cause) → message_answer_on b b.shape.cpus message ≡ no_effect cause → OtherSays b targets (Some (no_effect cause)) set.empty
+    cause_says : (cause : Cause) → message_answer_on b b.shape.cpus message ≡ no_effect cause → OtherSays b targets (Some (no_effect cause)) empty
     cause_says cause is = sym (answers ∙ ap Some is)
 
     named_is : named_on d b.shape.cpus message None ≡ named_on b b.shape.cpus message None
@@ -228,7 +210,7 @@ module _ (b : Board) (stand : HasProcessors b b.shape.cpus) (targets : Targets) 
     refused_spares takers (n ∷ ns) illegal =
         let v = accepted (part_of b (Lapic n)) message in
         let rest = accept_each message takers (processors_on d ns) in
-        either (spared b) (set.contains takers n) (put (Lapic n) v rest) rest
+        either (spared b) (contains takers n) (put (Lapic n) v rest) rest
         (λ c ws fit. (spared b).puts (Lapic n) v rest c ws fit (illegal_stays (part_of b (Lapic n)) message illegal) (λ fit. refused_spares takers ns illegal (with_part c (Lapic n) v) ws fit))
         (refused_spares takers ns illegal)
 
@@ -244,11 +226,11 @@ module _ (b : Board) (stand : HasProcessors b b.shape.cpus) (targets : Targets) 
         effect = by_new (is_empty is.sent.new) refl;
       }
         where
-          member : (k : ℕ) × (set.contains s k ≡ true)
+          member : (k : ℕ) × (contains s k ≡ true)
           member = someone_reached message.mode p ps s (subst (λ l. MayReach message.mode l s) named may)
 
           -- where nobody newly took it, each one that it reached had the request
-          had : is_empty is.sent.new ≡ true → (k : ℕ) → set.contains s k ≡ true → has_request_on b message k ≡ true
+          had : is_empty is.sent.new ≡ true → (k : ℕ) → contains s k ≡ true → has_request_on b message k ≡ true
           had none k reached = of_test (has_request_on b message k) refl
             where
               of_test : (t : Bool) → has_request_on b message k ≡ t → t ≡ true
@@ -256,7 +238,7 @@ module _ (b : Board) (stand : HasProcessors b b.shape.cpus) (targets : Targets) 
               of_test false e = absurd (true≢false (sym (ap (λ t. t && not (has_request_on b message k)) reached ∙ ap not e) ∙ sym (is.new k) ∙ no_member is.sent.new k none))
 
           requests : is_empty is.sent.new ≡ true → SameRequests b o.board
-          requests none n = ap (λ (a : LocalApic). a.irr) (is.after n) ∙ (elim (set.contains s n) as (λ t. set.contains s n ≡ t → (if t then accepted (part_of b (Lapic n)) message else part_of b (Lapic n)).irr ≡ (part_of b (Lapic n)).irr) [
+          requests none n = ap (λ (a : LocalApic). a.irr) (is.after n) ∙ (elim (contains s n) as (λ t. contains s n ≡ t → (if t then accepted (part_of b (Lapic n)) message else part_of b (Lapic n)).irr ≡ (part_of b (Lapic n)).irr) [
             | true ↦ λ reached. had_stays (part_of b (Lapic n)) message (had none n reached)
             | false ↦ λ _. refl
           ] refl)

@@ -1,46 +1,33 @@
 -- What stood where a chip answers that its pin stood, and that its pin is masked where it answers so.
-use Rattle.board_step.proofs.Basics.set
-use Rattle.board_step.proofs.Basics.{◌≡◌, ℕ, ◌+◌, ◌%◌, Bool, true, false, not, ◌&&◌, ◌||◌, nat_lt, if◌then◌else◌, ◌⊎◌, inl, inr, refl, sym, ap, ◌∙◌, true≢false, arith, Some, None, second_so, Option}
-use Rattle.board_step.proofs.Types.outcomes
-use Rattle.board_step.proofs.Types.raises
-use Rattle.board_step.proofs.Types.{Numbers, contains-set_below, Message, MsiWord, Targets, Cause, Masked, Chip, PinOutcome, Raise}
-use Rattle.board_step.proofs.Chips.{pin_outcome, raise_of, message_of, message_in, is_high}
-use Rattle.board_step.proofs.Plans.{Board, PicPart, IoapicPart, pair_of, ioapic_of, TargetAnswer, newly_taken, stood_already, no_effect}
+use Rattle.board_laws.proofs.Basics.{◌≡◌, ℕ, ◌+◌, ◌%◌, Bool, true, false, not, ◌&&◌, ◌||◌, nat_lt, if◌then◌else◌, ◌⊎◌, inl, inr, refl, sym, ap, ◌∙◌, true≢false, arith, Some, None, second_so, Option, Numbers, contains-set_below, Message, MsiWord, Targets, Cause, Masked, Chip, PinOutcome, Raise, pin_outcome, raise_of, message_of, message_in, is_high, Board, PicPart, IoapicPart, pair_of, ioapic_of, TargetAnswer, newly_taken, stood_already, no_effect, mod_small, set_below, chip_outcome as outcome_of, PicChip, chip_of, master_high, slave_high, ioapic_high, first_cause, chip_with_pin, is_pic_masked, PicPinsHaveTheirLines, is_pic_high, IsLatched, redirection_of, HasRemoteIrr, IsEdgeHigh, pic_answer_on, message_answer_on, raise_answer_on, other_answer_on, cause_on, lacks_effect, HasNoTarget, IsIgnoredFor, PicMasked, IoapicMasked, contains}
 use borrow.Author.Tests.{ltb-true}
-use Rattle.irq_bits.specs.InverseLemmas.{mod_small}
-use Rattle.irq_bits.specs.Members.{set_below}
-use Rattle.irq_base.specs.declared.status.Cause.TheVariants as causes
-use Rattle.pic_8259a.specs.Accesses.{outcome_of}
-use Rattle.board_model.specs.Chips.{PicChip, chip_of, master_high, slave_high, ioapic_high}
-use Rattle.board_model.specs.Statuses.{first_cause}
-use Rattle.board_laws.specs.Effect.{chip_with_pin, is_pic_masked, PicPinsHaveTheirLines, is_pic_high, IsLatched, redirection_of, HasRemoteIrr, IsEdgeHigh, pic_answer_on, message_answer_on, raise_answer_on, other_answer_on, cause_on, lacks_effect, HasNoTarget, IsIgnoredFor, PicMasked, IoapicMasked}
 
 -- what is in the numbers below a bound that pass, passes
-in_passes : (k : ℕ) (p : ℕ → Bool) (n : ℕ) → set.contains (set_below k p) n ≡ true → p n ≡ true
+in_passes : (k : ℕ) (p : ℕ → Bool) (n : ℕ) → contains (set_below k p) n ≡ true → p n ≡ true
 in_passes k p n there = second_so (nat_lt n k) (p n) (sym (contains-set_below k p n) ∙ there)
 
 -- ---- the 8259A pair
 
 abbrev pub has_stood : PinOutcome → Bool
-has_stood outcomes.Stood = true
+has_stood PinOutcome.Stood = true
 has_stood _ = false
 
 abbrev pub is_masked : PinOutcome → Bool
-is_masked outcomes.Masked = true
+is_masked PinOutcome.Masked = true
 is_masked _ = false
 
 -- what stood at a level of one chip
 abbrev LevelStood : Chip → ℕ → Type 0
-LevelStood c level = (set.contains c.imr level ≡ false) × ((set.contains c.high level ≡ true) ⊎ ((set.contains c.elcr level ≡ false) × (set.contains c.latches level ≡ true)))
+LevelStood c level = (contains c.imr level ≡ false) × ((contains c.high level ≡ true) ⊎ ((contains c.elcr level ≡ false) × (contains c.latches level ≡ true)))
 
 level_stood : (c : Chip) (level : ℕ) → has_stood (outcome_of c level true) ≡ true → LevelStood c level
-level_stood c level h = by_bits (set.contains c.imr level) (set.contains c.high level) (set.contains c.elcr level) (set.contains c.latches level) h
+level_stood c level h = by_bits (contains c.imr level) (contains c.high level) (contains c.elcr level) (contains c.latches level) h
   where
-    by_bits : (masked high levelled latched : Bool) → has_stood (if masked then outcomes.Masked else if not high && (levelled || not latched) then outcomes.New else outcomes.Stood) ≡ true
+    by_bits : (masked high levelled latched : Bool) → has_stood (if masked then PinOutcome.Masked else if not high && (levelled || not latched) then PinOutcome.New else PinOutcome.Stood) ≡ true
         → (masked ≡ false) × ((high ≡ true) ⊎ ((levelled ≡ false) × (latched ≡ true)))
     by_bits masked high levelled latched h1 = grind arith
 
-level_masked : (c : Chip) (level : ℕ) → is_masked (outcome_of c level true) ≡ true → set.contains c.imr level ≡ true
+level_masked : (c : Chip) (level : ℕ) → is_masked (outcome_of c level true) ≡ true → contains c.imr level ≡ true
 level_masked c level h1 = grind arith
 
 -- what stood at a pin of the pair
@@ -53,10 +40,10 @@ module _ (pic : PicPart) (pin : ℕ) where
   own_level below = mod_small pin 8 (ltb-true pin 8 below)
 
   -- what stood at the level of a chip, stood at the pin that it has
-  of_level : (chip : PicChip) → chip_with_pin pic pin ≡ chip → (high : Numbers) → (set.contains high (pin % 8) ≡ true → is_pic_high pic pin ≡ true) → LevelStood (chip_of chip high) (pin % 8) → PinStood pic pin
-  of_level chip is high line stood = (ap (λ (c : PicChip). set.contains c.imr (pin % 8)) is ∙ stood.0, of_reason stood.1)
+  of_level : (chip : PicChip) → chip_with_pin pic pin ≡ chip → (high : Numbers) → (contains high (pin % 8) ≡ true → is_pic_high pic pin ≡ true) → LevelStood (chip_of chip high) (pin % 8) → PinStood pic pin
+  of_level chip is high line stood = (ap (λ (c : PicChip). contains c.imr (pin % 8)) is ∙ stood.0, of_reason stood.1)
     where
-      of_reason : (set.contains high (pin % 8) ≡ true) ⊎ ((set.contains chip.elcr (pin % 8) ≡ false) × (set.contains chip.latches (pin % 8) ≡ true)) → (is_pic_high pic pin ≡ true) ⊎ IsLatched pic pin
+      of_reason : (contains high (pin % 8) ≡ true) ⊎ ((contains chip.elcr (pin % 8) ≡ false) × (contains chip.latches (pin % 8) ≡ true)) → (is_pic_high pic pin ≡ true) ⊎ IsLatched pic pin
       of_reason h1 = grind arith
 
   abbrev master : Chip
@@ -90,15 +77,15 @@ pic_pins_have_their_lines pin below = of_half (nat_lt pin 8) refl
 -- ---- the I/O APIC
 
 abbrev pub raise_stood : Raise → Bool
-raise_stood raises.Stood = true
+raise_stood Raise.Stood = true
 raise_stood _ = false
 
 abbrev pub raise_masked : Raise → Bool
-raise_masked raises.Masked = true
+raise_masked Raise.Masked = true
 raise_masked _ = false
 
 module _ (part : IoapicPart) (pin : ℕ) where
-  by_entry : (masked level remote_irr high : Bool) (message : Message) → raise_stood (if masked then raises.Masked else if (if level then remote_irr else high) then raises.Stood else raises.Send message) ≡ true
+  by_entry : (masked level remote_irr high : Bool) (message : Message) → raise_stood (if masked then Raise.Masked else if (if level then remote_irr else high) then Raise.Stood else Raise.Send message) ≡ true
       → (masked ≡ false) × (((level ≡ true) × (remote_irr ≡ true)) ⊎ ((level ≡ false) × (high ≡ true)))
   by_entry masked level remote_irr high message h1 = grind arith
 
@@ -106,10 +93,10 @@ module _ (part : IoapicPart) (pin : ℕ) where
   pub raised_stood : raise_stood (raise_of (ioapic_of part) pin) ≡ true → ((redirection_of part pin).masked ≡ false) × (HasRemoteIrr part pin ⊎ IsEdgeHigh part pin)
   raised_stood h =
       let entry = redirection_of part pin in
-      let stood = by_entry entry.masked entry.level entry.remote_irr (set.contains (ioapic_high part.holds) pin) (message_of entry) h in
+      let stood = by_entry entry.masked entry.level entry.remote_irr (contains (ioapic_high part.holds) pin) (message_of entry) h in
       (stood.0, of_reason stood.1)
     where
-      of_reason : (((redirection_of part pin).level ≡ true) × ((redirection_of part pin).remote_irr ≡ true)) ⊎ (((redirection_of part pin).level ≡ false) × (set.contains (ioapic_high part.holds) pin ≡ true)) → HasRemoteIrr part pin ⊎ IsEdgeHigh part pin
+      of_reason : (((redirection_of part pin).level ≡ true) × ((redirection_of part pin).remote_irr ≡ true)) ⊎ (((redirection_of part pin).level ≡ false) × (contains (ioapic_high part.holds) pin ≡ true)) → HasRemoteIrr part pin ⊎ IsEdgeHigh part pin
       of_reason (inl h) = inl (record { level = h.0; remote_irr = h.1 })
       of_reason (inr h) = inr (record { edge = h.0; high = in_passes 24 (is_high part.holds) pin h.1 })
 
@@ -128,15 +115,15 @@ is_masked_cause Masked = true
 is_masked_cause _ = false
 
 abbrev is_unrouted : Cause → Bool
-is_unrouted causes.Unrouted = true
+is_unrouted Cause.Unrouted = true
 is_unrouted _ = false
 
 module _ (asked : Cause → Bool) where
   -- where the first cause passes, one of two targets answers it, or neither is there to have a cause
-  one_answers : (pic other : Option TargetAnswer) → asked (first_cause pic other) ≡ true → (answers_cause asked pic ≡ true) ⊎ ((answers_cause asked other ≡ true) ⊎ (asked causes.Unrouted ≡ true))
+  one_answers : (pic other : Option TargetAnswer) → asked (first_cause pic other) ≡ true → (answers_cause asked pic ≡ true) ⊎ ((answers_cause asked other ≡ true) ⊎ (asked Cause.Unrouted ≡ true))
   one_answers pic other h1 = grind arith
 
-  module _ (b : Board) (no_mode : asked causes.Mode ≡ false) (no_vector : asked causes.BadVector ≡ false) (nobody : asked causes.NoProcessor ≡ false) where
+  module _ (b : Board) (no_mode : asked Cause.Mode ≡ false) (no_vector : asked Cause.BadVector ≡ false) (nobody : asked Cause.NoProcessor ≡ false) where
     -- a message answers the causes of messages alone
     message_never : (message : Message) → answers_cause asked (Some (message_answer_on b b.shape.cpus message)) ≡ false
     message_never message = grind arith
@@ -152,9 +139,9 @@ module _ (asked : Cause → Bool) where
     other_answers (Some pin) msi h = of_raise (raise_of (ioapic_of b.ioapic) pin) refl h
       where
         of_raise : (r : Raise) → raise_of (ioapic_of b.ioapic) pin ≡ r → answers_cause asked (Some (raise_answer_on b b.shape.cpus r)) ≡ true → (n : ℕ) × (Some pin ≡ Some n) × (raise_masked (raise_of (ioapic_of b.ioapic) n) ≡ true) × (asked Masked ≡ true)
-        of_raise raises.Masked is h = (pin, refl, ap raise_masked is, h)
-        of_raise raises.Stood is h = absurd (true≢false (sym h))
-        of_raise (raises.Send message) is h = absurd (true≢false (sym h ∙ message_never message))
+        of_raise Raise.Masked is h = (pin, refl, ap raise_masked is, h)
+        of_raise Raise.Stood is h = absurd (true≢false (sym h))
+        of_raise (Raise.Send message) is h = absurd (true≢false (sym h ∙ message_never message))
 
 -- the cause is Masked only where a pin of the targets is masked
 pub masked_only : (b : Board) (targets : Targets) → Masked ≡ cause_on b targets → PicMasked b targets ⊎ IoapicMasked b targets
@@ -176,7 +163,7 @@ module _ (b : Board) (targets : Targets) where
     unrouted = (λ unrouted. none pic other is says no_pic no_other (ap is_unrouted unrouted), λ no_target. all_none no_target);
   }
     where
-      all_none : HasNoTarget targets → first_cause pic other ≡ causes.Unrouted
+      all_none : HasNoTarget targets → first_cause pic other ≡ Cause.Unrouted
       all_none gone = (λ i. first_cause (is i) (says i)) ∙ (λ i. first_cause (pic_answer_on b (gone.pic i)) (other_answer_on b b.shape.cpus (gone.ioapic i) (gone.msi i)))
 
       no_pin : (pin : Option ℕ) → None ≡ pic_answer_on b pin → pin ≡ None

@@ -1,7 +1,5 @@
 -- Every legal history keeps the laws.
-use Rattle.board_laws.specs.Irqfds.{InjectsOnce}
-use Rattle.board_laws.specs.Ticks.{InjectsAfterAcknowledges}
-use Rattle.board_laws.specs.Lawful.{LegalHistoriesKeepTheLaws}
+use Rattle.board_laws.proofs.Basics.{InjectsOnce, InjectsAfterAcknowledges, LegalHistoriesKeepTheLaws}
 use Rattle.board_laws.proofs.Points.{at_entries}
 use Rattle.board_laws.proofs.PendingHistory.{requests_stay_pending}
 use Rattle.board_laws.proofs.EffectHistories.{statuses_without_effect_change_no_request, ignored_masked_is_masked}

@@ -1,3 +1,4 @@
+pub mod Basics
 pub mod Points
 pub mod PendingPlans
 pub mod PendingSends

@@ -1,16 +1,6 @@
 -- Each call but Ack loses no request.
-use Rattle.board_step.proofs.Basics.{◌≡◌, ℕ, false, List, refl, ◌∙◌, arith, Some, None, Option}
-use Rattle.board_step.proofs.Types.calls
-use Rattle.board_step.proofs.Types.{greatest_vector, Call, Source, Targets, Refusal, Reply, Lapic, Tick, Shape, Pin}
-use Rattle.board_step.proofs.Chips.{cycle, LocalApic, register_at, stored_at, store_to, without_service, ticked, tick_injects}
-use Rattle.board_step.proofs.Plans.{Routing, part_of, Board, pair_of, TargetAnswer, About, injected, ipi, the_reply, reply, resent, Wishes}
-use Rattle.board_step.proofs.Calls.{acknowledge_each, unless_refused, tick_or_hold, cycle_made, rung, io_row, plan_in_range, inject_tick}
-use Rattle.board_laws.specs.Pending.{is_ack}
-use Rattle.board_calls.proofs.Numbers.{service_number, store_number}
-use Rattle.board_step.proofs.Walk.{Walk, Holds, written}
-use Rattle.board_step.proofs.WalkSignals.{Signals, MayRaise}
-use Rattle.board_step.proofs.WalkAcks.{tells_by, acks_hold, end_level_holds, resend_holds, inject_tick_holds}
-use Rattle.board_step.proofs.WalkCalls.{is_signal, Accesses, Replied, cycle_at, line_holds, message_holds, write_holds, inject_count_holds, take_holds, tick_or_hold_holds, tick_mode_holds, assign_holds, deassign_holds, reroute_holds, attach_holds, detach_holds, watch_holds, unwatch_holds, rung_holds, port_out_holds, port_in_holds, store_holds, load_holds, inta_holds, eoi_holds, unless_holds}
+use Rattle.board_laws.proofs.Basics.{Walk, Holds, Signals, MayRaise, tells_by, acks_hold, end_level_holds, resend_holds, inject_tick_holds, is_signal, Accesses, Replied, cycle_at, line_holds, message_holds, write_holds, inject_count_holds, take_holds, tick_or_hold_holds, tick_mode_holds, assign_holds, deassign_holds, reroute_holds, attach_holds, detach_holds, watch_holds, unwatch_holds, rung_holds, port_out_holds, port_in_holds, store_holds, load_holds, inta_holds, eoi_holds, unless_holds, ◌≡◌, ℕ, false, List, refl, ◌∙◌, arith, Some, None, Option, greatest_vector, Call, Source, Targets, Refusal, Reply, Lapic, Tick, Shape, Pin, cycle, LocalApic, register_at, stored_at, store_to, without_service, ticked, tick_injects, Routing, part_of, Board, pair_of, TargetAnswer, About, injected, ipi, the_reply, reply, resent, Wishes, acknowledge_each, unless_refused, tick_or_hold, cycle_made, rung, io_row, plan_in_range, inject_tick, service_number, store_number, is_ack}
+use Rattle.board_step.proofs.Walks.{written}
 use Rattle.board_laws.proofs.PendingPlans.{same_requests, Fine, quiet, GoodRun, safe}
 use Rattle.board_laws.proofs.PendingSends.{shows}
 
@@ -83,27 +73,27 @@ module _ (routing : Routing) (shape : Shape) where
   -- ---- each call but Ack
 
   in_range_safe : (n : ℕ) (call : Call) → is_ack call ≡ false → Holds w (plan_in_range routing shape n call)
-  in_range_safe n (calls.Line gsi line high) other = line_holds w routing shape replied gsi line high
-  in_range_safe n (calls.Msi address payload) other = message_holds w routing shape replied address payload
-  in_range_safe n (calls.Write counter count) other = write_holds w routing shape replied counter count (routing.trigger counter) refl
-  in_range_safe n (calls.Take counter) other = take_holds w routing shape replies counter (λ b fine. tt)
-  in_range_safe n (calls.Assign trigger gsi resample) other = assign_holds w routing shape replies (λ r b fine. tt) trigger gsi resample (λ counts b fine. tt)
+  in_range_safe n (Call.Line gsi line high) other = line_holds w routing shape replied gsi line high
+  in_range_safe n (Call.Msi address payload) other = message_holds w routing shape replied address payload
+  in_range_safe n (Call.Write counter count) other = write_holds w routing shape replied counter count (routing.trigger counter) refl
+  in_range_safe n (Call.Take counter) other = take_holds w routing shape replies counter (λ b fine. tt)
+  in_range_safe n (Call.Assign trigger gsi resample) other = assign_holds w routing shape replies (λ r b fine. tt) trigger gsi resample (λ counts b fine. tt)
       (inject_count_holds w routing shape signals gsi resample (raises _ _) (λ pic. shows shape.cpus (injected gsi pic)))
-  in_range_safe n (calls.Deassign trigger gsi) other = deassign_holds w routing shape replies (λ r b fine. tt) signals trigger gsi
-  in_range_safe n (calls.Reroute rows) other = reroute_holds w routing shape replies (λ r b fine. tt) (λ holds b fine. tt) (λ holds b fine. tt) rows
-  in_range_safe n (calls.Attach space address len counter want) other = attach_holds w routing shape replies (λ r b fine. tt) (io_row space address len counter want)
-  in_range_safe n (calls.Detach space address len counter want) other = detach_holds w routing shape replies (λ r b fine. tt) (io_row space address len counter want)
-  in_range_safe n (calls.Watch counter gsi) other = watch_holds w routing shape replies (λ r b fine. tt) counter gsi
-  in_range_safe n (calls.Unwatch counter gsi) other = unwatch_holds w routing shape replies (λ r b fine. tt) counter gsi
-  in_range_safe n calls.Tick other = written w Tick ticked (λ before. tick_or_hold routing shape (ticked before) (tick_injects before)) (λ b fine. tt) (λ before. tick_or_hold_holds w routing shape replies (tick_safe (λ pic. the_reply pic)) (ticked before) (tick_injects before))
-  in_range_safe n (calls.TickMode reinject) other = tick_mode_holds w routing shape replies reinject (λ b fine. tt)
-  in_range_safe n (calls.PortOut port len value) other = port_out_holds w routing shape accesses rings port len value
-  in_range_safe n (calls.PortIn port len) other = port_in_holds w routing shape accesses port len
-  in_range_safe n (calls.Store address len value) other = store_holds w routing shape accesses rings n address len value
-  in_range_safe n (calls.Load address len) other = load_holds w routing shape accesses n address len
-  in_range_safe n calls.Ack other = cc
-  in_range_safe n calls.Inta other = inta_holds w routing shape accesses
-  in_range_safe n calls.Eoi other = eoi_holds w routing shape accesses n
+  in_range_safe n (Call.Deassign trigger gsi) other = deassign_holds w routing shape replies (λ r b fine. tt) signals trigger gsi
+  in_range_safe n (Call.Reroute rows) other = reroute_holds w routing shape replies (λ r b fine. tt) (λ holds b fine. tt) (λ holds b fine. tt) rows
+  in_range_safe n (Call.Attach space address len counter want) other = attach_holds w routing shape replies (λ r b fine. tt) (io_row space address len counter want)
+  in_range_safe n (Call.Detach space address len counter want) other = detach_holds w routing shape replies (λ r b fine. tt) (io_row space address len counter want)
+  in_range_safe n (Call.Watch counter gsi) other = watch_holds w routing shape replies (λ r b fine. tt) counter gsi
+  in_range_safe n (Call.Unwatch counter gsi) other = unwatch_holds w routing shape replies (λ r b fine. tt) counter gsi
+  in_range_safe n Call.Tick other = written w Tick ticked (λ before. tick_or_hold routing shape (ticked before) (tick_injects before)) (λ b fine. tt) (λ before. tick_or_hold_holds w routing shape replies (tick_safe (λ pic. the_reply pic)) (ticked before) (tick_injects before))
+  in_range_safe n (Call.TickMode reinject) other = tick_mode_holds w routing shape replies reinject (λ b fine. tt)
+  in_range_safe n (Call.PortOut port len value) other = port_out_holds w routing shape accesses rings port len value
+  in_range_safe n (Call.PortIn port len) other = port_in_holds w routing shape accesses port len
+  in_range_safe n (Call.Store address len value) other = store_holds w routing shape accesses rings n address len value
+  in_range_safe n (Call.Load address len) other = load_holds w routing shape accesses n address len
+  in_range_safe n Call.Ack other = cc
+  in_range_safe n Call.Inta other = inta_holds w routing shape accesses
+  in_range_safe n Call.Eoi other = eoi_holds w routing shape accesses n
 
   -- a whole call, which may be refused
   pub call_safe : (refusal : Option Refusal) (n : ℕ) (call : Call) → is_ack call ≡ false → Holds w (unless_refused refusal (plan_in_range routing shape n call))

@@ -1,18 +1,6 @@
 -- Requests stay pending until they are taken, along every legal history.
-use Rattle.board_step.proofs.Basics.{◌≡◌, ℕ, ◌+◌, Bool, true, false, All, ◌&&◌, ◌||◌, ◌⊎◌, inl, inr, List, [], ◌∷◌, ◌++◌, map, length, refl, sym, ap, subst, ◌∙◌, arith, slice_get, unwrap_or, list_any}
-use Rattle.board_step.proofs.Types.calls
-use Rattle.board_step.proofs.Types.{is_allowed, first_of, Call, Caller, Entry, Message, Reply, Shape}
-use Rattle.board_step.proofs.Chips.{LocalApic, power_on}
-use Rattle.board_step.proofs.Plans.{Board, Routing, routing_of_registry, Sending}
-use Rattle.board_step.proofs.Calls.{numbers_below, has_request_on, range_reasons, number_of}
-use Rattle.board_model.proofs.Staying.{frame_stays}
-use Rattle.board_step.specs.Step.{would_publish, plan_on, outcome_of, with_counts, Step}
-use Rattle.board_step.specs.History.{Leads, wishes_shown, next_board}
-use Rattle.board_laws.specs.Points.{Point, board_at, board_left, IsLegal, OfLegalHistories}
-use Rattle.board_laws.specs.Pending.{sendings_of, takes_by, is_processor, is_ack, takes, IsPendingOrTaken, SendingStands, SendingsStand, RequestsStayPending}
-use Rattle.board_step.proofs.Following.{steps_are_followed, next_is}
+use Rattle.board_laws.proofs.Basics.{◌≡◌, ℕ, ◌+◌, Bool, true, false, All, ◌&&◌, ◌||◌, ◌⊎◌, inl, inr, List, [], ◌∷◌, ◌++◌, map, length, refl, sym, ap, subst, ◌∙◌, arith, slice_get, unwrap_or, list_any, is_allowed, first_of, Call, Caller, Entry, Message, Reply, Shape, LocalApic, power_on, Board, Routing, routing_of_registry, Sending, numbers_below, has_request_on, range_reasons, number_of, frame_stays, would_publish, plan_on, outcome_of, with_counts, Step, Leads, wishes_shown, next_board, Point, board_at, board_left, IsLegal, OfLegalHistories, sendings_of, takes_by, is_processor, is_ack, takes, IsPendingOrTaken, SendingStands, SendingsStand, RequestsStayPending, steps_are_followed, next_is, number_at, apics_many, apics_numbered}
 use Rattle.board_laws.proofs.Points.{step_at, after_point, holds_at, at_points}
-use Rattle.board_step.proofs.SoundOpening.{number_at, apics_many, apics_numbered}
 use Rattle.board_laws.proofs.PendingPlans.{or_later, has, at, Fine, IsMade, Good}
 use Rattle.board_laws.proofs.PendingCalls.{call_safe}
 use Rattle.board_laws.proofs.PendingTaking.{Taking, TakingRun, next_taking}
@@ -27,7 +15,7 @@ opening_fine cpus = record {
 
 -- ---- one entry
 
-is_ack_is : (call : Call) → is_ack call ≡ true → call ≡ calls.Ack
+is_ack_is : (call : Call) → is_ack call ≡ true → call ≡ Call.Ack
 is_ack_is call h1 = grind arith
 
 -- the sendings of an entry, and the board after its plan
@@ -41,7 +29,7 @@ after_plan b e = (outcome_of b e (wishes_shown e)).board
 abbrev LosesNone : Board → Entry → List LocalApic → Type 0
 LosesNone b e apics =
     Good b.shape.cpus b.lapics apics (made_by b e)
-    ⊎ ((e.call ≡ calls.Ack) × Taking b.shape.cpus (number_of e.caller) b.lapics apics (made_by b e) (outcome_of b e (wishes_shown e)).log.answers)
+    ⊎ ((e.call ≡ Call.Ack) × Taking b.shape.cpus (number_of e.caller) b.lapics apics (made_by b e) (outcome_of b e (wishes_shown e)).log.answers)
 
 loses_none : (b : Board) (e : Entry) → Fine b.shape.cpus b.lapics → LosesNone b e (after_plan b e).lapics
 loses_none b e fine = of_ack (is_ack e.call) refl
@@ -52,7 +40,7 @@ loses_none b e fine = of_ack (is_ack e.call) refl
     of_ack : (t : Bool) → is_ack e.call ≡ t → LosesNone b e (after_plan b e).lapics
     of_ack false other = inl (call_safe routing b.shape (first_of (range_reasons b.shape e.call)) (number_of e.caller) e.call other b (wishes_shown e) fine)
     of_ack true is =
-        let ack : e.call ≡ calls.Ack = is_ack_is e.call is in
+        let ack : e.call ≡ Call.Ack = is_ack_is e.call is in
         inr (ack, subst (λ (c : Call). TakingRun b.shape.cpus (number_of e.caller) (plan_on b e.caller c) b (wishes_shown e)) (sym ack) (next_taking routing b.shape (number_of e.caller) b (wishes_shown e) fine))
 
 -- an entry leaves each request or takes it, and each of its sendings leaves a request at each processor that it reached
@@ -72,7 +60,7 @@ never : (t : Bool) → (t && false) ≡ true → false ≡ true
 never t h1 = grind arith
 
 -- who is allowed to ask Ack is the processor of that number
-asks_ack : (caller : Caller) (shape : Shape) (n : ℕ) → is_allowed caller calls.Ack shape ≡ true → number_of caller ≡ n → is_processor n caller ≡ true
+asks_ack : (caller : Caller) (shape : Shape) (n : ℕ) → is_allowed caller Call.Ack shape ≡ true → number_of caller ≡ n → is_processor n caller ≡ true
 asks_ack caller shape n h1 h2 = grind arith
 
 passes_own : (b : Board) (e : Entry) (c : Board) → Fine b.shape.cpus b.lapics → Step b e c → Passes b.shape b e

@@ -1,28 +1,18 @@
 -- Plans that lose no request, and whose sendings leave one at each processor that they reach.
-use Rattle.board_step.proofs.Basics.set
-use Rattle.board_step.proofs.Basics.{◌≡◌, ℕ, ◌≤◌, zero, suc, Bool, true, false, not, ◌||◌, All, nat_eq, nat_lt, if◌then◌else◌, ◌⊎◌, inl, inr, List, [], ◌∷◌, ◌++◌, map, length, refl, sym, ap, subst, ◌∙◌, arith, slice_get, slice_set, unwrap_or, All-nil, All-append}
-use Rattle.board_step.proofs.Types.{Numbers, contains-insert_number, Message, Part, Lapic}
-use Rattle.board_step.proofs.Chips.{LocalApic, power_on, is_enabled, is_nmi, accepted, with_error, with_request}
-use Rattle.board_step.proofs.Plans.{ValueOf, Board, part_of, with_part, Plan, done, look, put, tell, answer, choose, ◌>>=◌, Sending, Wishes, next_wish, later_wishes, run, reached}
-use Rattle.board_step.proofs.Calls.{Processor, does_hear, MayReach, see_each, is_illegal, processors_on, named_on}
-use Rattle.board_model.proofs.Lens.{part_of-with_other, lapics-with}
-use Rattle.board_model.proofs.Sequence.{run-bind}
-use Rattle.board_raise.proofs.SendExactly.{seen_each, after_seen}
-use Rattle.board_step.proofs.Walk.{Walk}
-use Rattle.board_laws.specs.Pending.{sendings_of}
+use Rattle.board_laws.proofs.Basics.{Walk, ◌≡◌, ℕ, ◌≤◌, zero, suc, Bool, true, false, not, ◌||◌, All, nat_eq, nat_lt, if◌then◌else◌, ◌⊎◌, inl, inr, List, [], ◌∷◌, ◌++◌, map, length, refl, sym, ap, subst, ◌∙◌, arith, slice_get, slice_set, unwrap_or, All-nil, All-append, Numbers, contains-insert_number, Message, Part, Lapic, LocalApic, power_on, is_enabled, is_nmi, accepted, with_error, with_request, ValueOf, Board, part_of, with_part, Plan, done, look, put, tell, answer, choose, ◌>>=◌, Sending, Wishes, next_wish, later_wishes, run, reached, Processor, does_hear, MayReach, see_each, is_illegal, processors_on, named_on, part_of-with_other, lapics-with, run-bind, seen_each, after_seen, sendings_of, contains, insert}
 
 -- ---- requests of one local APIC
 
 -- whether a local APIC has the request of a message
 abbrev pub has : LocalApic → Message → Bool
-has a message = if is_nmi message.mode then a.nmi else set.contains a.irr message.vector
+has a message = if is_nmi message.mode then a.nmi else contains a.irr message.vector
 
 -- it has each request still
 abbrev pub KeepsRequests : LocalApic → LocalApic → Type 0
 KeepsRequests a c = (message : Message) → has a message ≡ true → has c message ≡ true
 
 pub same_requests : (a c : LocalApic) → c.irr ≡ a.irr → c.nmi ≡ a.nmi → KeepsRequests a c
-same_requests a c irr nmi message h = ap (λ t. if is_nmi message.mode then t else set.contains c.irr message.vector) nmi ∙ ap (λ (s : Numbers). if is_nmi message.mode then a.nmi else set.contains s message.vector) irr ∙ h
+same_requests a c irr nmi message h = ap (λ t. if is_nmi message.mode then t else contains c.irr message.vector) nmi ∙ ap (λ (s : Numbers). if is_nmi message.mode then a.nmi else contains s message.vector) irr ∙ h
 
 pub or_later : (a b : Bool) → b ≡ true → (a || b) ≡ true
 or_later a b h1 = grind arith
@@ -37,22 +27,22 @@ accepted_keeps a m message h = elim (is_nmi m.mode) as (λ t. has (if t then rec
   ]
 ]
   where
-    of_nmi : (t : Bool) → (if t then a.nmi else set.contains a.irr message.vector) ≡ true → (if t then true else set.contains a.irr message.vector) ≡ true
+    of_nmi : (t : Bool) → (if t then a.nmi else contains a.irr message.vector) ≡ true → (if t then true else contains a.irr message.vector) ≡ true
     of_nmi t h1 = grind arith
 
-    of_request : (t : Bool) → (if t then a.nmi else set.contains a.irr message.vector) ≡ true → (if t then a.nmi else set.contains (set.insert a.irr m.vector) message.vector) ≡ true
+    of_request : (t : Bool) → (if t then a.nmi else contains a.irr message.vector) ≡ true → (if t then a.nmi else contains (insert a.irr m.vector) message.vector) ≡ true
     of_request true h = h
     of_request false h = contains-insert_number a.irr m.vector message.vector ∙ or_later (nat_eq message.vector m.vector) _ h
 
 -- a legal message that is heard is a request
 pub accepted_has : (a : LocalApic) (m : Message) → does_hear m.mode a ≡ true → is_illegal m ≡ false → has (accepted a m) m ≡ true
-accepted_has a m = elim (is_nmi m.mode) as (λ t. (t || is_enabled a) ≡ true → (if t then false else nat_lt m.vector 16) ≡ false → (if t then (if t then record a { nmi = true } else if not (is_enabled a) then a else if nat_lt m.vector 16 then with_error a 6 else with_request a m).nmi else set.contains (if t then record a { nmi = true } else if not (is_enabled a) then a else if nat_lt m.vector 16 then with_error a 6 else with_request a m).irr m.vector) ≡ true) [
+accepted_has a m = elim (is_nmi m.mode) as (λ t. (t || is_enabled a) ≡ true → (if t then false else nat_lt m.vector 16) ≡ false → (if t then (if t then record a { nmi = true } else if not (is_enabled a) then a else if nat_lt m.vector 16 then with_error a 6 else with_request a m).nmi else contains (if t then record a { nmi = true } else if not (is_enabled a) then a else if nat_lt m.vector 16 then with_error a 6 else with_request a m).irr m.vector) ≡ true) [
   | true ↦ λ _ _. refl
   | false ↦ λ hears legal.
-      ap (λ t. set.contains (if not t then a else if nat_lt m.vector 16 then with_error a 6 else with_request a m).irr m.vector) hears
-      ∙ ap (λ t. set.contains (if t then with_error a 6 else with_request a m).irr m.vector) legal
+      ap (λ t. contains (if not t then a else if nat_lt m.vector 16 then with_error a 6 else with_request a m).irr m.vector) hears
+      ∙ ap (λ t. contains (if t then with_error a 6 else with_request a m).irr m.vector) legal
       ∙ contains-insert_number a.irr m.vector m.vector
-      ∙ ap (λ t. t || set.contains a.irr m.vector) (itself m.vector)
+      ∙ ap (λ t. t || contains a.irr m.vector) (itself m.vector)
 ]
   where
     itself : (n : ℕ) → nat_eq n n ≡ true
@@ -125,7 +115,7 @@ module _ (cpus : ℕ) where
   -- a sending reached a set that it may reach, and each processor of it has the request among these local APICs
   pub record IsMade (apics : List LocalApic) (b : Board) (s : Sending) : Type 0 where
     pub chosen : MayReach s.heading.message.mode (named_on b cpus s.heading.message s.heading.from) (reached s.sent)
-    pub pending : (n : ℕ) → set.contains (reached s.sent) n ≡ true → has (at apics n) s.heading.message ≡ true
+    pub pending : (n : ℕ) → contains (reached s.sent) n ≡ true → has (at apics n) s.heading.message ≡ true
 
   -- local APICs before and after a run with these sendings: no request is lost
   pub record Good (before after : List LocalApic) (made : List (Board × Sending)) : Type 0 where

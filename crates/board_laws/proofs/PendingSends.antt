@@ -1,18 +1,5 @@
 -- A sending loses no request, reaches a set that it may reach, and leaves its request at each processor of it.
-use Rattle.board_step.proofs.Basics.set
-use Rattle.board_step.proofs.Basics.{◌≡◌, ℕ, ◌<◌, ◌≤◌, zero, suc, Bool, true, false, All, cond, ◌+◌, not, nat_eq, nat_lt, if◌then◌else◌, ◌⊎◌, inl, inr, filter, List, [], ◌∷◌, ◌++◌, map, length, refl, sym, ap, subst, ◌∙◌, arith, length-append, Option, All-nil}
-use Rattle.board_step.proofs.Types.{Numbers, Message, Lapic, Cause, NoProcessor, BadVector, BadMode, Shorthand}
-use Rattle.board_step.proofs.Chips.{LocalApic, is_taken, accepted}
-use Rattle.board_step.proofs.Plans.{Board, part_of, with_part, Sent, TargetAnswer, message_answer, About, injected, resent, ipi, the_reply, Plan, done, put, ◌>>=◌, ◌>>◌, Sending, Wishes, next_wish, later_wishes, run, reached}
-use Rattle.board_step.proofs.Calls.{Processor, does_hear, named_by, chosen_of, numbers_of, MayReach, show, ignore, numbers_below, only, reached_by, see_each, is_illegal, parted, accept_each, deliver, refuse_vector, send_to, send, processors_on, named_on, IsSending}
-use Rattle.std.proofs.lemmas.List.Elements.{All-cons, filter-append}
-use Rattle.board_model.proofs.Staying.{frame_stays}
-use Rattle.board_raise.specs.Named.{is_addressed, is_named}
-use Rattle.board_raise.proofs.Each.{Each, both_hold, each_passing, each_chosen, each_weaker, told_of}
-use Rattle.board_raise.proofs.SendExactly.{after_seen, of_reached, all_reached, wishes_reach_exactly}
-use Rattle.board_laws.specs.Pending.{sendings_of}
-use Rattle.board_step.proofs.SoundSends.{accepted_number}
-use Rattle.board_step.proofs.WalkSignals.{Shows, ignored}
+use Rattle.board_laws.proofs.Basics.{Shows, ignored, ◌≡◌, ℕ, ◌<◌, ◌≤◌, zero, suc, Bool, true, false, All, cond, ◌+◌, not, nat_eq, nat_lt, if◌then◌else◌, ◌⊎◌, inl, inr, filter, List, [], ◌∷◌, ◌++◌, map, length, refl, sym, ap, subst, ◌∙◌, arith, length-append, Option, All-nil, Numbers, Message, Lapic, Cause, NoProcessor, BadVector, BadMode, Shorthand, LocalApic, is_taken, accepted, Board, part_of, with_part, Sent, TargetAnswer, message_answer, About, injected, resent, ipi, the_reply, Plan, done, put, ◌>>=◌, ◌>>◌, Sending, Wishes, next_wish, later_wishes, run, reached, Processor, does_hear, named_by, chosen_of, numbers_of, MayReach, show, ignore, numbers_below, only, reached_by, see_each, is_illegal, parted, accept_each, deliver, refuse_vector, send_to, send, processors_on, named_on, IsSending, All-cons, filter-append, frame_stays, is_addressed, is_named_cpu as is_named, Each, both_hold, each_passing, each_chosen, each_weaker, told_of, after_seen, of_reached, all_reached, wishes_reach_exactly, sendings_of, accepted_number, contains}
 use Rattle.board_laws.proofs.PendingPlans.{logged, has, KeepsRequests, accepted_keeps, accepted_has, at, Fine, after_put, IsMade, quiet, GoodRun, Safe, safe_put, same_run, safe, seen_sendings}
 
 first_of_one : {X : Type 0} (x y : X) → x ∷ [] ≡ y ∷ [] → x ≡ y
@@ -84,7 +71,7 @@ module _ (cpus : ℕ) where
     accept_good rest h (n ∷ ns) c ws fine each =
         let v = accepted (part_of b (Lapic n)) message in
         let number : v.number ≡ n = accepted_number (part_of b (Lapic n)) message ∙ numbers n in
-        elim (set.contains takers n) as (λ t. GoodRun cpus ((if t then put (Lapic n) (accepted (part_of b (Lapic n)) message) (accept_each message takers (processors_on b ns)) else accept_each message takers (processors_on b ns)) >> rest) c ws) [
+        elim (contains takers n) as (λ t. GoodRun cpus ((if t then put (Lapic n) (accepted (part_of b (Lapic n)) message) (accept_each message takers (processors_on b ns)) else accept_each message takers (processors_on b ns)) >> rest) c ws) [
           | true ↦ safe_put cpus (Lapic n) v (accept_each message takers (processors_on b ns) >> rest) c ws fine (number, keeps_either n (part_of c (Lapic n)) (each n))
               (λ fits. accept_good rest h ns (with_part c (Lapic n) v) ws fits (after_put MayAccept c n v (inr refl) each))
           | false ↦ accept_good rest h ns c ws fine each
@@ -153,7 +140,7 @@ module _ (cpus : ℕ) where
           final = (run (send cpus message from about) b ws).board.lapics
 
           after : (n : ℕ) (P : LocalApic → Type 0) → P (part_of b (Lapic n)) → P (accepted (part_of b (Lapic n)) message) → P (at final n)
-          after n P same other = subst P (sym (is.after n)) (elim (set.contains s n) as (λ t. P (if t then accepted (part_of b (Lapic n)) message else part_of b (Lapic n))) [ true ↦ other | false ↦ same ])
+          after n P same other = subst P (sym (is.after n)) (elim (contains s n) as (λ t. P (if t then accepted (part_of b (Lapic n)) message else part_of b (Lapic n))) [ true ↦ other | false ↦ same ])
 
           same_sent : parts ≡ is.sent
           same_sent = ap (λ (x : Sending). x.sent) (first_of_one made (record { heading = record { message = message; from = from }; sent = is.sent })
@@ -162,17 +149,17 @@ module _ (cpus : ℕ) where
           all_of : reached parts ≡ s
           all_of = ap reached same_sent ∙ is.reaches
 
-          hears : (n : ℕ) → set.contains (reached parts) n ≡ true → does_hear message.mode (part_of b (Lapic n)) ≡ true
+          hears : (n : ℕ) → contains (reached parts) n ≡ true → does_hear message.mode (part_of b (Lapic n)) ≡ true
           hears n there = told_of (λ n. does_hear message.mode (part_of b (Lapic n))) (chosen_of message.mode (next_wish ws) (q ∷ qs))
               (each_chosen Hears message.mode (next_wish ws) (q ∷ qs) (subst (Each Hears) named hears_each))
-              n (ap (λ t. set.contains t n) (sym (all_reached message (chosen_of message.mode (next_wish ws) (q ∷ qs)))) ∙ there)
+              n (ap (λ t. contains t n) (sym (all_reached message (chosen_of message.mode (next_wish ws) (q ∷ qs)))) ∙ there)
 
           the_one : IsMade cpus final b made
           the_one = record {
             chosen = subst (MayReach message.mode (named_on b cpus message from)) (sym all_of) may;
             pending = λ n there.
                 ap (λ a. has a message) (is.after n)
-                ∙ ap (λ t. has (if t then accepted (part_of b (Lapic n)) message else part_of b (Lapic n)) message) (ap (λ t. set.contains t n) (sym all_of) ∙ there)
+                ∙ ap (λ t. has (if t then accepted (part_of b (Lapic n)) message else part_of b (Lapic n)) message) (ap (λ t. contains t n) (sym all_of) ∙ there)
                 ∙ accepted_has (part_of b (Lapic n)) message (hears n there) legal;
           }
 

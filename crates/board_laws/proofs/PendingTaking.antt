@@ -1,13 +1,5 @@
 -- Ack takes that request which its reply tells, and loses no other.
-use Rattle.board_step.proofs.Basics.set
-use Rattle.board_step.proofs.Basics.{◌≡◌, ℕ, Bool, true, false, not, ◌&&◌, All, nat_eq, if◌then◌else◌, ◌⊎◌, inl, inr, List, [], ◌∷◌, refl, ap, ◌∙◌, arith, Some, None, Option, contains-remove, nat_cmp_total, All-nil}
-use Rattle.board_step.proofs.Types.{Message, Reply, Extint, Nmi, Lapic, Shape}
-use Rattle.board_step.proofs.Chips.{has_output, cycle, LocalApic, is_nmi, giveable_of, given}
-use Rattle.board_step.proofs.Plans.{Routing, Board, part_of, with_part, pair_of, Plan, Sending, Wishes, run}
-use Rattle.board_step.proofs.Calls.{cycle_made, given_reply, give, hears_pair, give_of_pair, take_nmi, next_interrupt}
-use Rattle.std.specs.Cmp.{unsigned_tied}
-use Rattle.board_laws.specs.Pending.{sendings_of, takes_by}
-use Rattle.board_calls.proofs.Numbers.{given_number}
+use Rattle.board_laws.proofs.Basics.{◌≡◌, ℕ, Bool, true, false, not, ◌&&◌, All, nat_eq, if◌then◌else◌, ◌⊎◌, inl, inr, List, [], ◌∷◌, refl, ap, ◌∙◌, arith, Some, None, Option, contains-remove, nat_cmp_total, All-nil, Message, Reply, Extint, Nmi, Lapic, Shape, has_output, cycle, LocalApic, is_nmi, giveable_of, given, Routing, Board, part_of, with_part, pair_of, Plan, Sending, Wishes, run, cycle_made, given_reply, give, hears_pair, give_of_pair, take_nmi, next_interrupt, unsigned_tied, given_number, sendings_of, takes_by, contains, remove}
 use Rattle.board_laws.proofs.PendingPlans.{has, at, Fine, after_put, put_fine, IsMade, Good}
 use Rattle.board_laws.proofs.PendingCalls.{cycle_safe}
 
@@ -19,19 +11,19 @@ IsLeft a r message = (has a message ≡ true) ⊎ (takes_by message r ≡ true)
 
 given_leaves : (a : LocalApic) (vector : Option ℕ) (message : Message) → has a message ≡ true → IsLeft (given a vector) (given_reply vector) message
 given_leaves a None message = λ h. inl h
-given_leaves a (Some vector) message = elim (is_nmi message.mode) as (λ t. (if t then a.nmi else set.contains a.irr message.vector) ≡ true → ((if t then a.nmi else set.contains (set.remove a.irr vector) message.vector) ≡ true) ⊎ ((not t && nat_eq vector message.vector) ≡ true)) [
+given_leaves a (Some vector) message = elim (is_nmi message.mode) as (λ t. (if t then a.nmi else contains a.irr message.vector) ≡ true → ((if t then a.nmi else contains (remove a.irr vector) message.vector) ≡ true) ⊎ ((not t && nat_eq vector message.vector) ≡ true)) [
   | true ↦ λ h. inl h
   | false ↦ λ h. from (nat_eq vector message.vector) refl h
 ]
   where
-    from : (t : Bool) → nat_eq vector message.vector ≡ t → set.contains a.irr message.vector ≡ true → (set.contains (set.remove a.irr vector) message.vector ≡ true) ⊎ (nat_eq vector message.vector ≡ true)
+    from : (t : Bool) → nat_eq vector message.vector ≡ t → contains a.irr message.vector ≡ true → (contains (remove a.irr vector) message.vector ≡ true) ⊎ (nat_eq vector message.vector ≡ true)
     from true is h = inr is
     from false other h =
         let flipped : nat_eq message.vector vector ≡ false = grind (other, arith) in
-        inl (contains-remove nat_cmp_total a.irr vector message.vector ∙ ap (λ b. not b && set.contains a.irr message.vector) (unsigned_tied message.vector vector ∙ flipped) ∙ h)
+        inl (contains-remove nat_cmp_total a.irr vector message.vector ∙ ap (λ b. not b && contains a.irr message.vector) (unsigned_tied message.vector vector ∙ flipped) ∙ h)
 
 nmi_leaves : (a : LocalApic) (message : Message) → has a message ≡ true → IsLeft (record a { nmi = false }) Nmi message
-nmi_leaves a message = elim (is_nmi message.mode) as (λ t. (if t then a.nmi else set.contains a.irr message.vector) ≡ true → ((if t then false else set.contains a.irr message.vector) ≡ true) ⊎ (t ≡ true)) [ true ↦ λ h. inr refl | false ↦ λ h. inl h ]
+nmi_leaves a message = elim (is_nmi message.mode) as (λ t. (if t then a.nmi else contains a.irr message.vector) ≡ true → ((if t then false else contains a.irr message.vector) ≡ true) ⊎ (t ≡ true)) [ true ↦ λ h. inr refl | false ↦ λ h. inl h ]
 
 -- ---- of all
 

@@ -1,11 +1,5 @@
 -- A legal history at a point: it parts there, its entry is a step, and what steps keep holds there.
-use Rattle.board_step.proofs.Basics.{◌≡◌, List, [], ◌∷◌, ◌++◌, refl, sym, subst}
-use Rattle.board_step.proofs.Types.{Entry, Shape}
-use Rattle.board_step.proofs.Plans.{Board}
-use Rattle.board_step.specs.Step.{Step}
-use Rattle.board_step.specs.History.{opening, Leads, Legal, next_board, board_after}
-use Rattle.board_step.proofs.Following.{next_is}
-use Rattle.board_laws.specs.Points.{Point, board_at, board_left, IsLegal, AtEachPoint, AtEachEntry, OfEachBoard, OfLegalHistories}
+use Rattle.board_laws.proofs.Basics.{◌≡◌, List, [], ◌∷◌, ◌++◌, refl, sym, subst, Entry, Shape, Board, Step, opening, Leads, Legal, next_board, board_after, next_is, Point, board_at, board_left, IsLegal, AtEachPoint, AtEachEntry, OfEachBoard, OfLegalHistories}
 
 -- a step leads to the board that its entry tells
 pub told_step : (b : Board) (e : Entry) (c : Board) → Step b e c → Step b e (next_board b e)

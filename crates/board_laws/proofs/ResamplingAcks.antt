@@ -1,18 +1,6 @@
 -- What plans leave whose acknowledges resample: the counts that their events tell, and no pin more for Resample.
-use Rattle.board_step.proofs.Basics.set
-use Rattle.board_step.proofs.Basics.{◌≡◌, ℕ, Bool, true, false, cond, List, [], ◌∷◌, ◌++◌, map, Some, None, refl, sym, ap, subst, ◌∙◌, append_assoc, Option, unsigned_Decides}
-use Rattle.board_step.proofs.Types.pins
-use Rattle.board_step.proofs.Types.parts
-use Rattle.board_step.proofs.Types.{signalled, signalled_all, Event, Acked, Resampled, Watched, Pin, Resample}
-use Rattle.board_step.proofs.Chips.{Holds, hold, has_resampler, resample_events, Table, targets_of, has_pin, gsi_of}
-use Rattle.board_step.proofs.Plans.{RegistryPart, Board, with_part, Plan, ◌>>◌, Wishes, Outcome, then_run, run}
-use Rattle.board_step.proofs.Calls.{let_go_pic, let_go_ioapic, say_each, signal_each}
+use Rattle.board_laws.proofs.Basics.{Holds as HoldsOf, ◌≡◌, ℕ, Bool, true, false, cond, List, [], ◌∷◌, ◌++◌, map, Some, None, refl, sym, ap, subst, ◌∙◌, append_assoc, Option, unsigned_Decides, signalled, signalled_all, Event, Acked, Resampled, Watched, Pin, Resample, PinHolds as Holds, hold, has_resampler, resample_events, Table, targets_of, has_pin, gsi_of, RegistryPart, Board, with_part, Plan, ◌>>◌, Wishes, Outcome, then_run, run, let_go_pic, let_go_ioapic, say_each, signal_each, find, fold-append, is_same_pin as is_same, Part, counter_told, counters_told, IsReleased, contains, remove}
 use Rattle.std.specs.FinMap as fin_map
-use Rattle.std.specs.List.{find}
-use Rattle.std.proofs.lemmas.List.Sums.{fold-append}
-use Rattle.route_table.specs.Rows.{is_same}
-use Rattle.board_laws.specs.Resampling.{counter_told, counters_told, IsReleased}
-use Rattle.board_step.proofs.Walk.{Holds as HoldsOf}
 use Rattle.board_laws.proofs.ResamplingPlans.{gone, NoMore, no_more, AreQuiet, Leaves, left}
 
 -- ---- the pins of a GSI
@@ -42,8 +30,8 @@ module _ (r : RegistryPart) where
   pub record Resamples (last : Board) (gsi : ℕ) (after : List Event) : Type 0 where
     pub more : List Event
     pub events : after ≡ resample_events r.irqfds gsi ++ more
-    pub pic : IsReleased r gsi last.pic.holds pins.Pic
-    pub ioapic : IsReleased r gsi last.ioapic.holds pins.Ioapic
+    pub pic : IsReleased r gsi last.pic.holds Pin.Pic
+    pub ioapic : IsReleased r gsi last.ioapic.holds Pin.Ioapic
 
   abbrev pub Followed : Board → Event → List Event → Type 0
   Followed last (Acked pin (Some gsi)) after = has_resampler r.irqfds gsi ≡ true → Resamples last gsi after
@@ -156,14 +144,14 @@ module _ (r : RegistryPart) where
 
   pub signal_acks : (counters : List ℕ) (events : List Event) → Tell events counters → Acks (signal_each counters events)
   signal_acks counters events t = λ b ws is.
-      let after = with_part b parts.Counters (signalled_all b.counters counters) in
+      let after = with_part b Part.Counters (signalled_all b.counters counters) in
       let o : Outcome (Unit {0}) = run (say_each events) after ws in
       let s : Said events after o = said events after ws in
       record {
         registry = ap (λ (c : Board). c.registry) s.board ∙ is;
         counts = ap (λ (c : Board). c.counters) s.board ∙ ap (signalled_all b.counters) (sym (ap counters_told s.told ∙ t.told));
-        pic = λ n free. ap (λ (c : Board). set.contains c.pic.holds (hold n Resample)) s.board ∙ free;
-        ioapic = λ n free. ap (λ (c : Board). set.contains c.ioapic.holds (hold n Resample)) s.board ∙ free;
+        pic = λ n free. ap (λ (c : Board). contains c.pic.holds (hold n Resample)) s.board ∙ free;
+        ioapic = λ n free. ap (λ (c : Board). contains c.ioapic.holds (hold n Resample)) s.board ∙ free;
         follows = subst (λ l. Follows o.board l) (sym s.told) (t.follow o.board);
       }
 
@@ -171,11 +159,11 @@ module _ (r : RegistryPart) where
 
   pub record LetsGo (pic ioapic : Option ℕ) (o : Outcome (Unit {0})) : Type 0 where
     pub silent : o.log.events ≡ []
-    pub free_pic : (pin : ℕ) → pic ≡ Some pin → set.contains o.board.pic.holds (hold pin Resample) ≡ false
-    pub free_ioapic : (pin : ℕ) → ioapic ≡ Some pin → set.contains o.board.ioapic.holds (hold pin Resample) ≡ false
+    pub free_pic : (pin : ℕ) → pic ≡ Some pin → contains o.board.pic.holds (hold pin Resample) ≡ false
+    pub free_ioapic : (pin : ℕ) → ioapic ≡ Some pin → contains o.board.ioapic.holds (hold pin Resample) ≡ false
 
-  let_gone : (holds : Holds) (n pin : ℕ) → Some n ≡ Some pin → set.contains (set.remove holds (hold n Resample)) (hold pin Resample) ≡ false
-  let_gone holds n pin e = let same : n ≡ pin = cc in subst (λ k. set.contains (set.remove holds (hold n Resample)) (hold k Resample) ≡ false) same (gone holds (hold n Resample))
+  let_gone : (holds : Holds) (n pin : ℕ) → Some n ≡ Some pin → contains (remove holds (hold n Resample)) (hold pin Resample) ≡ false
+  let_gone holds n pin e = let same : n ≡ pin = cc in subst (λ k. contains (remove holds (hold n Resample)) (hold k Resample) ≡ false) same (gone holds (hold n Resample))
 
   pub lets_go : (pic ioapic : Option ℕ) (b : Board) (ws : Wishes) → LetsGo pic ioapic (run (let_go_pic pic Resample >> let_go_ioapic ioapic Resample) b ws)
   lets_go None None b ws = record { silent = refl; free_pic = λ pin e. cc; free_ioapic = λ pin e. cc }

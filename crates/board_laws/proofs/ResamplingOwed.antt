@@ -1,19 +1,7 @@
 -- What an acknowledge leaves: each resample counter of its GSI is told at once, and no other; and Resample lets its pins go.
-use Rattle.board_step.proofs.Basics.{◌≡◌, ℕ, Bool, true, false, not, ◌&&◌, ◌||◌, nat_eq, cond, filter, if◌then◌else◌, List, [], ◌∷◌, ◌++◌, map, Some, None, refl, sym, ap, subst, ◌∙◌, append_assoc, append-nil, filter_map, is_some, Option, cons_option}
-use Rattle.board_step.proofs.Types.pins
-use Rattle.board_step.proofs.Types.parts
-use Rattle.board_step.proofs.Types.{Event, Acked, Resampled, Watched, Pin, Resample, Targets, Shape, signalled_all, Irqfd, Watch}
-use Rattle.board_step.proofs.Chips.{has_resampler, resample_of, resampled, resample_events, has_watch, watched, watch_events, targets_of}
-use Rattle.board_step.proofs.Plans.{RegistryPart, Routing, routing_of_registry, Board, with_part, resent, Plan, done, tell, ◌>>◌, ipi, reply, Wishes, Outcome, then_run, run}
-use Rattle.board_step.proofs.Calls.{send, let_go, resend, signal_each, resample, notify, resample_and_notify, tell_concerned, end_level, end_tick, acknowledge, acknowledge_each}
-use Rattle.board_model.proofs.Sequence.{run-bind}
-use Rattle.board_laws.specs.Resampling.{signal_told, signals_told, signal_owed, signals_owed, counters_told}
+use Rattle.board_laws.proofs.Basics.{Walk, Holds as HoldsOf, of_relation, ended, after, let_go_holds, resend_holds, end_tick_holds, Accesses, ◌≡◌, ℕ, Bool, true, false, not, ◌&&◌, ◌||◌, nat_eq, cond, filter, if◌then◌else◌, List, [], ◌∷◌, ◌++◌, map, Some, None, refl, sym, ap, subst, ◌∙◌, append_assoc, append-nil, filter_map, is_some, Option, cons_option, Event, Acked, Resampled, Watched, Pin, Resample, Targets, Shape, signalled_all, Irqfd, Watch, has_resampler, resample_of, resampled, resample_events, has_watch, watched, watch_events, targets_of, RegistryPart, Routing, routing_of_registry, Board, with_part, resent, Plan, done, tell, ◌>>◌, ipi, reply, Wishes, Outcome, then_run, run, send, let_go, resend, signal_each, resample, notify, resample_and_notify, tell_concerned, end_level, end_tick, acknowledge, acknowledge_each, run-bind, Part, signal_told, signals_told, signal_owed, signals_owed, counters_told}
 use Rattle.board_laws.proofs.ResamplingPlans.{AreQuiet, no_more, Stays, same, left, shows_left, left_signals, left_ends}
 use Rattle.board_laws.proofs.ResamplingAcks.{has_it, same_number, Resamples, Does, Acks, then_does, acks_quietly, resamples_later, Said, said, resamples_tell, watches_tell, signal_acks, LetsGo, lets_go}
-use Rattle.board_step.proofs.Walk.{Walk, Holds as HoldsOf, of_relation, ended, after}
-use Rattle.board_step.proofs.WalkSignals.{let_go_holds}
-use Rattle.board_step.proofs.WalkAcks.{resend_holds, end_tick_holds}
-use Rattle.board_step.proofs.WalkCalls.{Accesses}
 
 -- ---- what events tell and owe
 
@@ -158,14 +146,14 @@ module _ (r : RegistryPart) where
         let one : Does r b o = acks_quietly r (let_go targets Resample) (let_go_holds (left r) shape.cpus (left_signals r) targets Resample) b ws is in
         let last : Outcome (Unit {0}) = run next o.board o.wishes in
         let two : Does r o.board last = acks o.board o.wishes one.registry in
-        let s : Said r (resample_events r.irqfds gsi) (with_part o.board parts.Counters (signalled_all o.board.counters (resampled r.irqfds gsi))) last = said r (resample_events r.irqfds gsi) (with_part o.board parts.Counters (signalled_all o.board.counters (resampled r.irqfds gsi))) o.wishes in
+        let s : Said r (resample_events r.irqfds gsi) (with_part o.board Part.Counters (signalled_all o.board.counters (resampled r.irqfds gsi))) last = said r (resample_events r.irqfds gsi) (with_part o.board Part.Counters (signalled_all o.board.counters (resampled r.irqfds gsi))) o.wishes in
         subst (λ (x : Outcome (Unit {0})). Concerns gsi b x) (sym (run-bind (λ _. next) (let_go targets Resample) b ws)) (record {
           does = then_does r b o (λ _. next) one two;
           first = λ _. record {
             more = [];
             events = ap (λ l. l ++ last.log.events) l.silent ∙ s.told ∙ sym (append-nil (resample_events r.irqfds gsi));
-            pic = λ pin e. two.pic pin (l.free_pic pin (same_number targets.pic pin (has_it r.table (pins.Pic pin) gsi e)));
-            ioapic = λ pin e. two.ioapic pin (l.free_ioapic pin (same_number targets.ioapic pin (has_it r.table (pins.Ioapic pin) gsi e)));
+            pic = λ pin e. two.pic pin (l.free_pic pin (same_number targets.pic pin (has_it r.table (Pin.Pic pin) gsi e)));
+            ioapic = λ pin e. two.ioapic pin (l.free_ioapic pin (same_number targets.ioapic pin (has_it r.table (Pin.Ioapic pin) gsi e)));
           };
         })
 
@@ -208,7 +196,7 @@ module _ (r : RegistryPart) where
           | true ↦ λ _.
               ap (λ (x : Outcome (Unit {0})). x.log.events) (run-bind (λ _. next) (let_go targets Resample) b ws)
               ∙ ap (λ l. l ++ (run next o.board o.wishes).log.events) (lets_go r targets.pic targets.ioapic b ws).silent
-              ∙ (said r (resample_events r.irqfds gsi) (with_part o.board parts.Counters (signalled_all o.board.counters (resampled r.irqfds gsi))) o.wishes).told
+              ∙ (said r (resample_events r.irqfds gsi) (with_part o.board Part.Counters (signalled_all o.board.counters (resampled r.irqfds gsi))) o.wishes).told
           | false ↦ λ off. ap (λ l. map Resampled l) (sym (no_resampler r.irqfds gsi off))
         ] refl
 
@@ -218,7 +206,7 @@ module _ (r : RegistryPart) where
         let o : Outcome (Unit {0}) = run m b ws in
         subst (λ (q : RegistryPart). (run (resample (targets_of r.table gsi) gsi q >> notify gsi q) b ws).log.events ≡ resample_events r.irqfds gsi ++ watch_events r.watches gsi) (sym is)
         (ap (λ (x : Outcome (Unit {0})). x.log.events) (run-bind (λ _. notify gsi r) m b ws)
-        ∙ (λ i. resample_tells gsi b ws i ++ (said r (watch_events r.watches gsi) (with_part o.board parts.Counters (signalled_all o.board.counters (watched r.watches gsi))) o.wishes).told i))
+        ∙ (λ i. resample_tells gsi b ws i ++ (said r (watch_events r.watches gsi) (with_part o.board Part.Counters (signalled_all o.board.counters (watched r.watches gsi))) o.wishes).told i))
 
     -- a GSI that is not marked has neither resamplers nor notifiers
     concern_tells : (gsi : ℕ) (b : Board) (ws : Wishes) → b.registry ≡ r → (run (tell_concerned routing (Some gsi)) b ws).log.events ≡ resample_events r.irqfds gsi ++ watch_events r.watches gsi

@@ -1,29 +1,19 @@
 -- What plans without an acknowledge leave: their events are none of an acknowledge, and Resample holds no pin more of a choice.
-use Rattle.board_step.proofs.Basics.set
-use Rattle.board_step.proofs.Basics.{◌≡◌, ℕ, Bool, true, false, not, ◌&&◌, ◌||◌, List, [], ◌∷◌, ◌++◌, refl, sym, ap, ◌∙◌, Option, tied_itself, contains-insert, contains-remove, eq_by_cmp, is_eq}
-use Rattle.board_step.proofs.Types.{Event, Acked, Resampled, Watched, Source, Resample, TickSource, Targets, Shape}
-use Rattle.board_step.proofs.Chips.{Hold, Holds, hold, hold_cmp}
-use Rattle.board_step.proofs.Plans.{RegistryPart, Board, with_part, Sent, TargetAnswer, About, injected, resent, ipi, the_reply, events_of, next_wish, later_wishes, Outcome, run, routing_of_registry}
-use Rattle.board_step.proofs.Calls.{show}
-use Rattle.source_levels.proofs.HoldLemmas.{hold_cmp_total, tied_same}
-use Rattle.board_step.proofs.Walk.{Walk, Holds as HoldsOf, of_relation}
-use Rattle.board_step.proofs.WalkSignals.{Shows, Signals, MayRaise, shows_by}
-use Rattle.board_step.proofs.WalkAcks.{end_level_holds, Ends, inject_tick_holds}
-use Rattle.board_step.proofs.WalkOpen.{Open, of_log, open_shows}
+use Rattle.board_laws.proofs.Basics.{Walk, Holds as HoldsOf, of_relation, Shows, Signals, MayRaise, shows_by, end_level_holds, Ends, inject_tick_holds, Open, of_log, open_shows, ◌≡◌, ℕ, Bool, true, false, not, ◌&&◌, ◌||◌, List, [], ◌∷◌, ◌++◌, refl, sym, ap, ◌∙◌, Option, tied_itself, contains-insert, contains-remove, eq_by_cmp, is_eq, Event, Acked, Resampled, Watched, Source, Resample, TickSource, Targets, Shape, Hold, PinHolds as Holds, hold, hold_cmp, RegistryPart, Board, with_part, Sent, TargetAnswer, About, injected, resent, ipi, the_reply, events_of, next_wish, later_wishes, Outcome, run, routing_of_registry, show, hold_cmp_total, tied_same, contains, insert, remove}
 
 -- ---- holds
 
 -- one hold more, of another source, is none of Resample
-pub other_held : (holds : Holds) (pin other : ℕ) (source : Source) → (source ≡ Resample → ⊥) → set.contains holds (hold pin Resample) ≡ false → set.contains (set.insert holds (hold other source)) (hold pin Resample) ≡ false
+pub other_held : (holds : Holds) (pin other : ℕ) (source : Source) → (source ≡ Resample → ⊥) → contains holds (hold pin Resample) ≡ false → contains (insert holds (hold other source)) (hold pin Resample) ≡ false
 other_held holds pin other source differs free =
     contains-insert hold_cmp_total holds (hold other source) (hold pin Resample)
-    ∙ elim (eq_by_cmp hold_cmp (hold pin Resample) (hold other source)) as (λ t. eq_by_cmp hold_cmp (hold pin Resample) (hold other source) ≡ t → (t || set.contains holds (hold pin Resample)) ≡ false) [
+    ∙ elim (eq_by_cmp hold_cmp (hold pin Resample) (hold other source)) as (λ t. eq_by_cmp hold_cmp (hold pin Resample) (hold other source) ≡ t → (t || contains holds (hold pin Resample)) ≡ false) [
       | true ↦ λ same. absurd (differs (sym (ap (λ (h : Hold). h.source) (tied_same (hold pin Resample) (hold other source) same))))
       | false ↦ λ _. free
     ] refl
 
 -- one hold less
-pub fewer_held : (holds : Holds) (k h : Hold) → set.contains holds h ≡ false → set.contains (set.remove holds k) h ≡ false
+pub fewer_held : (holds : Holds) (k h : Hold) → contains holds h ≡ false → contains (remove holds k) h ≡ false
 fewer_held holds k h free = contains-remove hold_cmp_total holds k h ∙ ap (λ t. not (eq_by_cmp hold_cmp h k) && t) free ∙ never (not (eq_by_cmp hold_cmp h k))
   where
     never : (t : Bool) → (t && false) ≡ false
@@ -31,8 +21,8 @@ fewer_held holds k h free = contains-remove hold_cmp_total holds k h ∙ ap (λ 
     never false = refl
 
 -- the hold that was removed
-pub gone : (holds : Holds) (h : Hold) → set.contains (set.remove holds h) h ≡ false
-gone holds h = contains-remove hold_cmp_total holds h h ∙ ap (λ t. not t && set.contains holds h) (itself h)
+pub gone : (holds : Holds) (h : Hold) → contains (remove holds h) h ≡ false
+gone holds h = contains-remove hold_cmp_total holds h h ∙ ap (λ t. not t && contains holds h) (itself h)
   where
     itself : (h : Hold) → eq_by_cmp hold_cmp h h ≡ true
     itself h = ap is_eq (tied_itself hold_cmp_total h)
@@ -41,11 +31,11 @@ gone holds h = contains-remove hold_cmp_total holds h h ∙ ap (λ t. not t && s
 
 -- Resample holds none of these pins
 abbrev pub Unheld : (ℕ → Type 0) → Holds → Type 0
-Unheld These holds = (pin : ℕ) → These pin → set.contains holds (hold pin Resample) ≡ false
+Unheld These holds = (pin : ℕ) → These pin → contains holds (hold pin Resample) ≡ false
 
 -- Resample holds no pin more
 abbrev pub NoMore : Holds → Holds → Type 0
-NoMore old new = Unheld (λ n. set.contains old (hold n Resample) ≡ false) new
+NoMore old new = Unheld (λ n. contains old (hold n Resample) ≡ false) new
 
 pub no_more : (a b c : Holds) → NoMore a b → NoMore b c → NoMore a c
 no_more a b c one two = λ n free. two n (one n free)
@@ -100,8 +90,8 @@ module _ (r : RegistryPart) where
   same registry counters pic ioapic fit = record {
     registry = registry ∙ fit;
     counters = counters;
-    pic = λ n free. ap (λ holds. set.contains holds (hold n Resample)) pic ∙ free;
-    ioapic = λ n free. ap (λ holds. set.contains holds (hold n Resample)) ioapic ∙ free;
+    pic = λ n free. ap (λ holds. contains holds (hold n Resample)) pic ∙ free;
+    ioapic = λ n free. ap (λ holds. contains holds (hold n Resample)) ioapic ∙ free;
   }
 
   pub then_stays : (a b c : Board) → Stays a b → Stays b c → Stays a c

@@ -1,11 +1,5 @@
 -- Each acknowledge of a legal history resamples once, in order.
-use Rattle.board_step.proofs.Basics.{◌≡◌, ℕ, Bool, true, false, inl, inr, List, [], ◌∷◌, ◌++◌, Some, refl, ap, subst, ◌∙◌, Option}
-use Rattle.board_step.proofs.Types.{Event, Acked, Pin, Entry, signalled_all}
-use Rattle.board_step.proofs.Chips.{has_resampler}
-use Rattle.board_step.proofs.Plans.{RegistryPart, Board, Outcome}
-use Rattle.board_step.specs.Step.{would_publish, with_counts, outcome_of, Step}
-use Rattle.board_laws.specs.Points.{OfLegalHistories}
-use Rattle.board_laws.specs.Resampling.{counters_told, signals_told, signals_owed, ResamplesOnce, AcknowledgesResampleOnce, EachAcknowledgeResamplesOnce}
+use Rattle.board_laws.proofs.Basics.{◌≡◌, ℕ, Bool, true, false, inl, inr, List, [], ◌∷◌, ◌++◌, Some, refl, ap, subst, ◌∙◌, Option, Event, Acked, Pin, Entry, signalled_all, has_resampler, RegistryPart, Board, Outcome, would_publish, with_counts, outcome_of, Step, OfLegalHistories, counters_told, signals_told, signals_owed, ResamplesOnce, AcknowledgesResampleOnce, EachAcknowledgeResamplesOnce}
 use Rattle.board_laws.proofs.Points.{at_entries}
 use Rattle.board_laws.proofs.ResamplingPlans.{AreQuiet}
 use Rattle.board_laws.proofs.ResamplingAcks.{Followed, Follows, Resamples}

@@ -1,15 +1,6 @@
 -- What a call in code did is what a body has to do.
-use Rattle.board_step.proofs.Basics.{◌≡◌, ℕ, ◌+◌, ◌^◌, ◌≤◌, true, false, not, ◌&&◌, ◌||◌, if◌then◌else◌, ◌++◌, List, [], ◌∷◌, Ok, Err, Some, None, refl, sym, ap, ◌∙◌, subst, arith, Result, IfSome, is_some, find, list_any, Option}
-use Rattle.board_step.proofs.Types.{Irqfd, Reason, first_of, Call, Caller, Event, Refusal, Reply, Refused, Shape, with_told, TickState, Lacks}
-use Rattle.board_step.proofs.Chips.{is_named, named_row}
-use Rattle.board_step.proofs.Plans.{Board, Parts, Plan, Wishes, OnParts, gives, lacks, run_on}
-use Rattle.board_step.proofs.Calls.{number_of, plan_in_range, FitsShape, FitsButTick, range_reasons, unless_refused, TellsOn}
-use Rattle.std.specs.Option.{option_or}
-use Rattle.irq_base.proofs.Room.{told-none}
-use Rattle.board_model.specs.Published.{routing_of_words}
+use Rattle.board_step.proofs.Basics.{◌≡◌, ℕ, ◌+◌, ◌^◌, ◌≤◌, true, false, not, ◌&&◌, ◌||◌, if◌then◌else◌, ◌++◌, List, [], ◌∷◌, Ok, Err, Some, None, refl, sym, ap, ◌∙◌, subst, arith, Result, IfSome, is_some, find, list_any, Option, Irqfd, Reason, first_of, Call, Caller, Event, Refusal, Reply, Refused, Shape, with_told, TickState, Lacks, is_named, named_row, Board, Parts, Plan, Wishes, OnParts, gives, lacks, run_on, number_of, plan_in_range, FitsShape, FitsButTick, range_reasons, unless_refused, TellsOn, option_or, told-none, routing_of_words, plan_by, Did, BodyLeads, later_reasons, does_publish, publishes_unless, would_publish}
 use Rattle.board_raise.specs.declared.parts.Parts as code
-use Rattle.board_step.specs.Bodies.{plan_by, Did, BodyLeads}
-use Rattle.board_step.specs.Step.{later_reasons, does_publish, publishes_unless, would_publish}
 use Rattle.board_step.proofs.BodySteps.{done_leads}
 
 -- ---- what it did leads on

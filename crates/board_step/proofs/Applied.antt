@@ -1,17 +1,6 @@
 -- What a body left of all parts of a board in code is the next board, and it keeps what a board keeps.
-use Rattle.board_step.proofs.Basics.{IfSome, Option, ◌≡◌, ℕ, ◌+◌, Bool, false, if◌then◌else◌, List, length, Some, None, option_map, refl, sym, ap, ◌∙◌, subst}
-use Rattle.board_step.proofs.Types.{Call, Caller, Event, Entry, Reply, Registry, BoardRig}
-use Rattle.board_step.proofs.Plans.{part_in, all_parts, published}
-use Rattle.board_step.proofs.Calls.{words_in, PinsFit, registry_of, parts_of, chips_of}
-use Rattle.board_raise.specs.declared.parts.RegistryPart.{RegistryPart}
+use Rattle.board_step.proofs.Basics.{IfSome, Option, ◌≡◌, ℕ, ◌+◌, Bool, false, if◌then◌else◌, List, length, Some, None, option_map, refl, sym, ap, ◌∙◌, subst, Call, Caller, Event, Entry, Reply, Registry, BoardRig, part_in, all_parts, published, words_in, PinsFit, registry_of, parts_of, chips_of, CodeRegistry as RegistryPart, would_publish, Step, KeepsTheFrame, IsSound, IsTyped, IsOf, MayCall, entry_of, IsStepFrom, IsWhole, board_of, board_in, IsKept}
 use Rattle.board_step.specs.declared.board.Board.TheInside.{Inside}
-use Rattle.board_step.specs.Step.{would_publish, Step}
-use Rattle.board_step.specs.Publications.{KeepsTheFrame}
-use Rattle.board_step.specs.Sound.{IsSound}
-use Rattle.board_step.specs.Laws.{IsTyped}
-use Rattle.board_step.specs.Bodies.{IsOf, MayCall, entry_of, IsStepFrom}
-use Rattle.board_step.specs.Whole.{IsWhole, board_of}
-use Rattle.board_step.specs.Owned.{board_in, IsKept}
 use Rattle.board_step.proofs.SoundSteps.{steps_keep_sound}
 use Rattle.board_step.proofs.WordsStay.{words_stay}
 use Rattle.board_step.proofs.Publishing.{steps_show_publications, steps_keep_the_frame}

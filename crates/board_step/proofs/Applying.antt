@@ -1,19 +1,6 @@
 -- One call on a board in code is one step of it.
-use Rattle.board_step.proofs.Basics.{◌≡◌, ℕ, ◌+◌, ◌<◌, Bool, true, false, true≢false, nat_lt, List, [], ◌∷◌, Ok, Some, None, refl, sym, ap, ◌∙◌, subst, arith, nat_tests, IfSome, unwrap_or, Option}
-use Rattle.board_step.proofs.Types.{is_allowed, Call, Caller, Event, Reply, Part, Registry, Lapic, BoardRig}
-use Rattle.board_step.proofs.Plans.{LacksReached, Board, part_of, Parts, published, Wishes, run_on}
-use Rattle.board_step.proofs.Calls.{words_in, Fits, registry_of, parts_of, chips_of, FitsShape, FitsButTick, TellsOn}
-use Rattle.std.proofs.Common.{is_some}
+use Rattle.board_step.proofs.Basics.{◌≡◌, ℕ, ◌+◌, ◌<◌, Bool, true, false, true≢false, nat_lt, List, [], ◌∷◌, Ok, Some, None, refl, sym, ap, ◌∙◌, subst, arith, nat_tests, IfSome, unwrap_or, Option, is_allowed, Call, Caller, Event, Reply, Part, Registry, Lapic, BoardRig, LacksReached, Board, part_of, Parts, published, Wishes, run_on, words_in, Fits, registry_of, parts_of, chips_of, FitsShape, FitsButTick, TellsOn, is_some, Applied, Ran, MayCall, plan_by, entry_of, Stepped, opening_registry, IsTyped, board_in, IsKept, spent_by, reach, would_publish, spent_of, Step, is_part}
 use Rattle.board_step.specs.declared.board.Board.TheInside.{Inside}
-use Rattle.board_step.specs.Applied.{Applied, Ran}
-use Rattle.board_step.specs.Bodies.{MayCall, plan_by, entry_of, Stepped}
-use Rattle.board_step.specs.History.{opening_registry}
-use Rattle.board_step.specs.Laws.{IsTyped}
-use Rattle.board_step.specs.Owned.{board_in, IsKept}
-use Rattle.board_step.specs.Publications.{spent_by}
-use Rattle.board_step.specs.Reach.{reach}
-use Rattle.board_step.specs.Step.{would_publish, spent_of, Step}
-use Rattle.board_step.specs.Whole.{is_part}
 use Rattle.board_step.proofs.Answered.{tells_did}
 use Rattle.board_step.proofs.Applied.{kept_is_of, published_by, after_call, applied_steps, applied_kept, words_left, words_anew}
 use Rattle.board_step.proofs.BodySteps.{done_ran}

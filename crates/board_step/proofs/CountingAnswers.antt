@@ -1,15 +1,5 @@
 -- Each call answers exactly once, and on a sound board it tells at most 560 events.
-use Rattle.board_step.proofs.Basics.{◌≡◌, ℕ, ◌+◌, ◌≤◌, List, [], ◌∷◌, length, map, refl, subst, arith}
-use Rattle.board_step.proofs.Types.{Pin, Shape, Call, Caller, Event, Reply}
-use Rattle.board_step.proofs.Chips.{has_vector}
-use Rattle.board_step.proofs.Plans.{Board, Wishes, run, RegistryPart, Routing, routing_of_registry}
-use Rattle.board_step.proofs.Calls.{all_pins}
-use Rattle.irq_base.specs.declared.event.Pin.TheVariants.{Ioapic}
-use Rattle.board_raise.proofs.Counting.{Told}
-use Rattle.board_ack.proofs.Counting.{each_events}
-use Rattle.board_step.specs.Step.{plan_on, outcome_of, counted}
-use Rattle.board_step.specs.Sound.{IsSound}
-use Rattle.board_step.specs.Laws.{AnswersOnce, AlwaysAnswers, StepsTellFew}
+use Rattle.board_step.proofs.Basics.{◌≡◌, ℕ, ◌+◌, ◌≤◌, List, [], ◌∷◌, length, map, refl, subst, arith, Pin, Shape, Call, Caller, Event, Reply, has_vector, Board, Wishes, run, RegistryPart, Routing, routing_of_registry, all_pins, IoapicPin as Ioapic, Told, each_events, plan_on, outcome_of, counted, IsSound, AnswersOnce, AlwaysAnswers, StepsTellFew}
 use Rattle.board_step.proofs.CountingCalls.{Any, Bounds, call_tells}
 use Rattle.board_step.proofs.CountingRows.{resamplers, each_events-apart, each_events-some}
 use Rattle.board_step.proofs.CountingTriggers.{few_resamplers}

@@ -1,9 +1,5 @@
 -- The rows of different GSIs are different rows: the events of acknowledges of pins whose GSIs differ are few.
-use Rattle.board_step.proofs.Basics.{◌≡◌, ℕ, ◌+◌, ◌≤◌, Bool, true, false, cond, nat_eq, if◌then◌else◌, List, [], ◌∷◌, length, map, filter, refl, sym, ap, ◌∙◌, subst, arith, Some, None, is_some, cons_option, Option}
-use Rattle.board_step.proofs.Types.{Resampled, Watched, Pin, Shape, Irqfd, Watch}
-use Rattle.board_step.proofs.Chips.{resampled, resample_events, watch_events}
-use Rattle.board_step.proofs.Plans.{RegistryPart, Routing}
-use Rattle.board_ack.proofs.Counting.{rows_for, ticks_for, again_for, each_events}
+use Rattle.board_step.proofs.Basics.{◌≡◌, ℕ, ◌+◌, ◌≤◌, Bool, true, false, cond, nat_eq, if◌then◌else◌, List, [], ◌∷◌, length, map, filter, refl, sym, ap, ◌∙◌, subst, arith, Some, None, is_some, cons_option, Option, Resampled, Watched, Pin, Shape, Irqfd, Watch, resampled, resample_events, watch_events, RegistryPart, Routing, rows_for, ticks_for, again_for, each_events}
 
 -- ---- totals over a list
 

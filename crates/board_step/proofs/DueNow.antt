@@ -1,23 +1,10 @@
 -- An Ack answers what is due.
-use Rattle.board_step.proofs.Basics.{◌≡◌, ℕ, ◌<◌, zero, suc, Bool, true, false, true≢false, ◌&&◌, if◌then◌else◌, List, [], ◌∷◌, ◌++◌, map, length, Some, None, refl, sym, ap, ◌∙◌, arith, IfSome, unwrap_or, Option}
-use Rattle.board_step.proofs.Types.pic
-use Rattle.board_step.proofs.Types.{Ack, Cpu, Reply, Pic, Lapic, Pair}
-use Rattle.board_step.proofs.Chips.{has_output, Cycle, cycle, Holds, LocalApic, power_on, giveable_of}
-use Rattle.board_step.proofs.Plans.{Board, part_of, with_part, pair_of, with_pair, flat, Routing, routing_of_registry, Plan, reply, ◌>>◌, Wishes, Outcome, run}
-use Rattle.board_step.proofs.Calls.{PairFits, acknowledge_each, cycle_pins, cycle_made, give, given_reply, hears_pair, give_of_pair, take_nmi}
-use Rattle.std.proofs.Common.{slice_get, is_some}
-use Rattle.std.specs.Prelude.{option_map}
-use Rattle.irq_base.specs.declared.reply.Reply.TheVariants as replies
-use Rattle.board_raise.specs.InHand.{pic_of}
-use Rattle.board_raise.specs.OnRow.{apic_in}
-use Rattle.board_model.proofs.Sequence.{run-bind}
+use Rattle.board_step.proofs.Basics.{◌≡◌, ℕ, ◌<◌, zero, suc, Bool, true, false, true≢false, ◌&&◌, if◌then◌else◌, List, [], ◌∷◌, ◌++◌, map, length, Some, None, refl, sym, ap, ◌∙◌, arith, IfSome, unwrap_or, Option, Ack, Cpu, Reply, Pic, Lapic, Pair, has_output, Cycle, cycle, Holds, LocalApic, power_on, giveable_of, Board, part_of, with_part, pair_of, with_pair, flat, Routing, routing_of_registry, Plan, reply, ◌>>◌, Wishes, Outcome, run, PairFits, acknowledge_each, cycle_pins, cycle_made, give, given_reply, hears_pair, give_of_pair, take_nmi, slice_get, is_some, option_map, pic_of, apic_in, run-bind, opening_pic, board_in, IsKept, given_due, due_by, due_in, IsDue, AnswersDue}
+use Rattle.board_step.proofs.Basics.pic
 use Rattle.board_step.specs.declared.due.Due.{Due}
 use Rattle.board_step.specs.declared.due.Due.TheVariants as dues
 use Rattle.board_step.specs.declared.board.Board.TheInside.{Inside}
-use Rattle.board_step.specs.History.{opening_pic}
-use Rattle.board_step.specs.Owned.{board_in, IsKept}
 use Rattle.board_step.proofs.WholeParts.{below_is}
-use Rattle.board_step.specs.Due.{given_due, due_by, due_in, IsDue, AnswersDue}
 use Rattle.board_step.proofs.CountingAnswers.{answers_once}
 
 -- of one reply the last is the only one
@@ -44,15 +31,15 @@ module _ (b : Board) (n : ℕ) (ws : Wishes) where
   gives_due : Answers (give n apic) (given_due (giveable_of apic))
   gives_due one = (given_reply (giveable_of apic), refl, given_is_due (giveable_of apic))
 
-  cycle_due : (c : Cycle) → Answers (cycle_made routing b.shape b.pic c (replies.Extint c.vector)) dues.Extint
+  cycle_due : (c : Cycle) → Answers (cycle_made routing b.shape b.pic c (Reply.Extint c.vector)) dues.Extint
   cycle_due c one =
       let m = acknowledge_each routing b.shape (cycle_pins c.pins) in
       let after = with_part b Pic (with_pair b.pic c.after) in
-      let q = replies.Extint c.vector in
+      let q = Reply.Extint c.vector in
       let sum : (run (m >> reply q) after ws).log.answers ≡ (run m after ws).log.answers ++ q ∷ [] = ap (λ (o : Outcome (Unit {0})). o.log.answers) (run-bind (λ _. reply q) m after ws) in
       (q, sum ∙ last_alone (run m after ws).log.answers q (sym (ap length sum) ∙ one), tt)
 
-  pair_due : (t : Bool) → Answers (if t then cycle_made routing b.shape b.pic (cycle (pair_of b.pic)) (replies.Extint (cycle (pair_of b.pic)).vector) else give n apic) (if t then dues.Extint else given_due (giveable_of apic))
+  pair_due : (t : Bool) → Answers (if t then cycle_made routing b.shape b.pic (cycle (pair_of b.pic)) (Reply.Extint (cycle (pair_of b.pic)).vector) else give n apic) (if t then dues.Extint else given_due (giveable_of apic))
   pair_due true = cycle_due (cycle (pair_of b.pic))
   pair_due false = gives_due
 
@@ -61,7 +48,7 @@ module _ (b : Board) (n : ℕ) (ws : Wishes) where
   hears_due false = gives_due
 
   next_due : (t : Bool) → Answers (if t then take_nmi n apic else if hears_pair n apic then give_of_pair routing b.shape n apic else give n apic) (if t then dues.Nmi else if hears_pair n apic && has_output (pair_of b.pic) then dues.Extint else given_due (giveable_of apic))
-  next_due true one = (replies.Nmi, refl, tt)
+  next_due true one = (Reply.Nmi, refl, tt)
   next_due false one = hears_due (hears_pair n apic) one
 
   pub acks_due : AnswersDue b n (due_by n (part_of b (Lapic n)) (pair_of b.pic)) ws

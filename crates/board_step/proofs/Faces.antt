@@ -1,15 +1,5 @@
 -- What a face over a board on one thread keeps.
-use Rattle.board_step.proofs.Basics.{◌≡◌, ℕ, ◌+◌, ◌-◌, ◌<◌, ◌≤◌, Bool, true, false, true≢false, ◌&&◌, nat_eq, if◌then◌else◌, List, Some, None, refl, sym, ap, ◌∙◌, subst, arith, nat_tests, Option}
-use Rattle.board_step.proofs.Types.calls
-use Rattle.board_step.proofs.Types.{Call, Caller, Event, Entry, Refusal, Spent, Calls, Publications}
-use Rattle.board_step.proofs.Plans.{Board}
-use Rattle.irq_base.specs.Callers.{is_there}
-use Rattle.irq_base.specs.Faces.{may_publish}
-use Rattle.irq_base.specs.declared.reply.Done.{Done}
-use Rattle.board_step.specs.Applied.{Applied, is_reached}
-use Rattle.board_step.specs.Bodies.{entry_of}
-use Rattle.board_step.specs.Publications.{KeepsTheFrame}
-use Rattle.board_step.specs.Step.{publishes_unless, refusal_of, would_publish, spent_of, is_publication}
+use Rattle.board_step.proofs.Basics.{◌≡◌, ℕ, ◌+◌, ◌-◌, ◌<◌, ◌≤◌, Bool, true, false, true≢false, ◌&&◌, nat_eq, if◌then◌else◌, List, Some, None, refl, sym, ap, ◌∙◌, subst, arith, nat_tests, Option, Call, Caller, Event, Entry, Refusal, Spent, Calls, Publications, Board, is_there, may_publish, DoneCall as Done, Applied, is_reached, entry_of, KeepsTheFrame, publishes_unless, refusal_on as refusal_of, would_publish, spent_of, is_publication}
 use Rattle.board_step.proofs.Publishing.{steps_show_publications, steps_keep_the_frame}
 
 some_none : {A : Type 0} (x : A) → Some x ≡ None → ⊥
@@ -52,11 +42,11 @@ never_barred b call spent is left quiet = some_none spent (sym is ∙ (λ i. if 
 
     unless : (r : Option Refusal) (call : Call) → may_publish call ≡ false → publishes_unless r b call ≡ false
     unless (Some refusal) call quiet = refl
-    unless None (calls.Reroute rows) quiet = absurd (true≢false quiet)
-    unless None (calls.Assign trigger gsi resample) quiet = absurd (true≢false quiet)
-    unless None (calls.Deassign trigger gsi) quiet = absurd (true≢false quiet)
-    unless None (calls.Watch counter gsi) quiet = absurd (true≢false quiet)
-    unless None (calls.Unwatch counter gsi) quiet = absurd (true≢false quiet)
+    unless None (Call.Reroute rows) quiet = absurd (true≢false quiet)
+    unless None (Call.Assign trigger gsi resample) quiet = absurd (true≢false quiet)
+    unless None (Call.Deassign trigger gsi) quiet = absurd (true≢false quiet)
+    unless None (Call.Watch counter gsi) quiet = absurd (true≢false quiet)
+    unless None (Call.Unwatch counter gsi) quiet = absurd (true≢false quiet)
     unless None _ quiet = refl
 
     no_publication : would_publish b call ≡ false

@@ -1,15 +1,5 @@
 -- A board in code follows an entry exactly where it is a step.
-use Rattle.board_step.proofs.Basics.{◌≡◌, ◌+◌, ◌<◌, ◌≤◌, Bool, List, [], ◌∷◌, length, Some, None, sym, ap, ◌∙◌, subst, arith}
-use Rattle.board_step.proofs.Types.{with_told, Call, Caller, Event, Entry, Reply, Spent}
-use Rattle.board_step.proofs.Plans.{Board, Wishes, Log}
-use Rattle.std.proofs.Common.{◌↔◌, IsTrue}
-use Rattle.irq_base.specs.declared.reply.Done.{Done}
-use Rattle.irq_base.proofs.Room.{told-fits}
-use Rattle.board_step.specs.Applied.{Applied, LeadsOn, Ran}
-use Rattle.board_step.specs.Bodies.{entry_of}
-use Rattle.board_step.specs.History.{wishes_shown}
-use Rattle.board_step.specs.Sound.{IsSound}
-use Rattle.board_step.specs.Step.{spent_of, outcome_of, Step}
+use Rattle.board_step.proofs.Basics.{◌≡◌, ◌+◌, ◌<◌, ◌≤◌, Bool, List, [], ◌∷◌, length, Some, None, sym, ap, ◌∙◌, subst, arith, with_told, Call, Caller, Event, Entry, Reply, Spent, Board, Wishes, Log, ◌↔◌, IsTrue, DoneCall as Done, told-fits, Applied, LeadsOn, Ran, entry_of, wishes_shown, IsSound, spent_of, outcome_of, Step}
 use Rattle.board_step.proofs.CountingAnswers.{steps_tell_few}
 use Rattle.board_step.proofs.Following.{steps_are_followed}
 

@@ -1,13 +1,5 @@
 -- The choices of calls can be followed by what an entry shows.
-use Rattle.board_step.proofs.Basics.{◌≡◌, true, not, List, [], ◌∷◌, ◌++◌, refl, sym, ap, ◌∙◌, append-nil}
-use Rattle.board_step.proofs.Types.{Call, Caller, Entry}
-use Rattle.board_step.proofs.Plans.{Board, routing_of_registry, shown_wishes, Log}
-use Rattle.board_model.specs.Following.{IsSteady}
-use Rattle.board_model.proofs.Followed.{shown_followed}
-use Rattle.board_raise.proofs.Manner.{Manner, Keeps, steady_of}
-use Rattle.board_step.specs.Laws.{StepsAreFollowed}
-use Rattle.board_step.specs.Step.{plan_on, outcome_of, counted, Step}
-use Rattle.board_step.specs.History.{wish_replied, wishes_told, wishes_shown, next_board, Leads, board_after}
+use Rattle.board_step.proofs.Basics.{◌≡◌, true, not, List, [], ◌∷◌, ◌++◌, refl, sym, ap, ◌∙◌, append-nil, Call, Caller, Entry, Board, routing_of_registry, shown_wishes, Log, IsSteady, shown_followed, Manner, Keeps, steady_of, StepsAreFollowed, plan_on, outcome_of, counted, Step, wish_replied, wishes_told, wishes_shown, next_board, Leads, board_after}
 use Rattle.board_step.proofs.CallManner.{replies_in, writes_in, refuses_in, call_keeps, or_true}
 use Rattle.board_step.proofs.Shown.{wishes_replied, all_shown}
 

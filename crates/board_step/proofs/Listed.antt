@@ -1,9 +1,5 @@
 -- The first items of a list and one more, and the item at a place before those that come after it.
-use Rattle.board_step.proofs.Basics.{◌≡◌, ℕ, ◌+◌, ◌<◌, List, [], ◌∷◌, ◌++◌, length, get_or, add-one, Some, sym, ap, ◌∙◌}
-use Rattle.std.proofs.Common.{take, drop, slice_get}
-use Rattle.std.proofs.Math.Seq.{take-suc}
-use Rattle.std.proofs.lemmas.List.{drop_more}
-use Rattle.std.proofs.lemmas.Option.{slice_get_within, get_or_from_slice_get}
+use Rattle.board_step.proofs.Basics.{◌≡◌, ℕ, ◌+◌, ◌<◌, List, [], ◌∷◌, ◌++◌, length, get_or, add-one, Some, sym, ap, ◌∙◌, first_items as take, drop, slice_get, take-suc, drop_more, slice_get_within, get_or_from_slice_get}
 
 pub take_more : {A : Type 0} (xs : List A) (k : ℕ) (x : A) → k < length xs → get_or xs k x ≡ x → take (k + 1) xs ≡ take k xs ++ x ∷ []
 take_more xs k x below is = ap (λ n. take n xs) (add-one k) ∙ take-suc xs k x below ∙ ap (λ y. take k xs ++ y ∷ []) is

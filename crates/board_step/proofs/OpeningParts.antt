@@ -1,23 +1,8 @@
 -- The parts at power-on that the code makes; and what parts of a sound board fit.
-use Rattle.board_step.proofs.Basics.set
-use Rattle.board_step.proofs.Basics.{◌≡◌, ℕ, ◌+◌, ◌-◌, ◌<◌, zero, suc, List, [], ◌∷◌, ◌++◌, map, length, replicate, Some, None, refl, sym, ap, ◌∙◌, subst, arith, add-one, length-replicate, unwrap_or, Option}
-use Rattle.board_step.proofs.Types.pic
-use Rattle.board_step.proofs.Types.{Shape, BoardRig}
-use Rattle.board_step.proofs.Chips.{LocalApic, power_on}
-use Rattle.board_step.proofs.Plans.{Board, flat, all_parts, published}
-use Rattle.board_step.proofs.Calls.{parts_of, InLimits, Fits, PairFits, PinsFit, numbers_below}
-use Rattle.std.proofs.Common.{slice_get, slice_set, IfSome}
-use Rattle.std.proofs.lemmas.List.{length-map, length-append, map-append}
-use Rattle.pic_8259a.specs.Pair.{pair_at_power_on}
-use Rattle.ioapic_82093aa.specs.Pins.{ioapic_at_power_on}
-use Rattle.board_model.specs.Chips.{without_pins}
+use Rattle.board_step.proofs.Basics.{◌≡◌, ℕ, ◌+◌, ◌-◌, ◌<◌, zero, suc, List, [], ◌∷◌, ◌++◌, map, length, replicate, Some, None, refl, sym, ap, ◌∙◌, subst, arith, add-one, length-replicate, unwrap_or, Option, Shape, BoardRig, LocalApic, power_on, Board, flat, all_parts, published, parts_of, InLimits, Fits, PairFits, PinsFit, numbers_below, slice_get, slice_set, IfSome, length-map, map-append, pair_at_power_on, ioapic_at_power_on, without_pins, Pins, IoapicFits, IsSound, opening, IsWhole, board_of, IsKept, opening_row, OpensPic, OpensIoapic, OpensRig, empty}
+use Rattle.board_step.proofs.Basics.pic
+use Rattle.std.proofs.lemmas.List.{length-append}
 use Rattle.board_raise.specs.declared.parts.IoPart as io
-use Rattle.board_raise.specs.Fit.{Pins, IoapicFits}
-use Rattle.board_step.specs.Sound.{IsSound}
-use Rattle.board_step.specs.History.{opening}
-use Rattle.board_step.specs.Whole.{IsWhole, board_of}
-use Rattle.board_step.specs.Owned.{IsKept}
-use Rattle.board_step.specs.Opening.{opening_row, OpensPic, OpensIoapic, OpensRig}
 use Rattle.board_step.proofs.WholeParts.{parts_make_their_board, all_parts_are_whole}
 use Rattle.board_step.proofs.SoundOpening.{apics_many, opening_is_sound}
 
@@ -55,10 +40,10 @@ put_first (y ∷ xs) left x = ap (λ rest. y ∷ rest) (put_first xs left x)
 
 -- ---- the chips with pins
 
-pub opens_pic : (part : pic.PicPart) → part.pair ≡ pair_at_power_on → part.levels ≡ set.empty → PairFits part.pair part.levels → OpensPic part
+pub opens_pic : (part : pic.PicPart) → part.pair ≡ pair_at_power_on → part.levels ≡ empty → PairFits part.pair part.levels → OpensPic part
 opens_pic part pair holds fits = record { opens = λ i. record { master = without_pins (pair i).master; slave = without_pins (pair i).slave; holds = holds i }; pins = fits }
 
-pub opens_ioapic : (part : io.IoPart) → part.ioapic ≡ ioapic_at_power_on → part.levels ≡ set.empty → IoapicFits part.ioapic part.levels → OpensIoapic part
+pub opens_ioapic : (part : io.IoPart) → part.ioapic ≡ ioapic_at_power_on → part.levels ≡ empty → IoapicFits part.ioapic part.levels → OpensIoapic part
 opens_ioapic part chip holds fits = record { opens = λ i. record { entries = (chip i).entries; selected = (chip i).selected; identity = (chip i).identity; holds = holds i }; pins = fits }
 
 -- ---- the row after one processor more

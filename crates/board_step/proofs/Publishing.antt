@@ -1,20 +1,5 @@
 -- A step shows in its entry whether it is a publication; a publication reaches the registry; a step keeps the frame.
-use Rattle.board_step.proofs.Basics.{◌≡◌, ℕ, ◌+◌, Bool, true, false, not, ◌&&◌, if◌then◌else◌, cond, List, [], ◌∷◌, ◌++◌, length, Some, None, refl, sym, ap, ◌∙◌, arith, Option}
-use Rattle.board_step.proofs.Types.calls
-use Rattle.board_step.proofs.Types.{Reason, first_of, Call, Caller, Refusal, Reply, Done, Removed, Refused, Nothing, Registry, Irqfd}
-use Rattle.board_step.proofs.Chips.irqfds
-use Rattle.board_step.proofs.Plans.{Board, Routing, routing_of_registry, Plan, reply, ◌>>◌, Wishes, Outcome, run}
-use Rattle.board_step.proofs.Calls.{of_acknowledge_each, range_reasons, unless_refused, inject_count, assigned, was_last_resampler, release, deassigned, number_of, plan_in_range}
-use Rattle.std.proofs.Common.{is_some, zero-add}
-use Rattle.std.specs.Prelude.{count_by}
-use Rattle.std.proofs.lemmas.List.Sums.{sum_by-cons}
-use Rattle.board_model.specs.Agreement.{SameFrame}
-use Rattle.board_model.proofs.Sequence.{run-bind}
-use Rattle.board_model.proofs.Staying.{frame_stays}
-use Rattle.board_step.specs.Step.{later_reasons, refusal_of, does_publish, publishes_unless, would_publish, plan_on, outcome_of, with_counts, counted, is_done, is_removed, did_publish, is_publication}
-use Rattle.board_step.specs.Reach.{reach, of_call}
-use Rattle.board_step.specs.History.{opening}
-use Rattle.board_step.specs.Publications.{StepsShowPublications, PublicationsReachTheRegistry, StepsKeepTheFrame, HistoriesKeepTheFrame, LegalHistoriesCount, spent_by, LimitsAreTold, words, WordsStayAlong}
+use Rattle.board_step.proofs.Basics.{◌≡◌, ℕ, ◌+◌, Bool, true, false, not, ◌&&◌, if◌then◌else◌, cond, List, [], ◌∷◌, ◌++◌, length, Some, None, refl, sym, ap, ◌∙◌, arith, Option, Reason, first_of, Call, Caller, Refusal, Reply, Done, Removed, Refused, Nothing, Registry, Irqfd, Board, Routing, routing_of_registry, Plan, reply, ◌>>◌, Wishes, Outcome, run, of_acknowledge_each, range_reasons, unless_refused, inject_count, assigned, was_last_resampler, release, deassigned, number_of, plan_in_range, is_some, zero-add, count_by, sum_by-cons, SameFrame, run-bind, frame_stays, later_reasons, refusal_on as refusal_of, does_publish, publishes_unless, would_publish, plan_on, outcome_of, with_counts, counted, is_done, is_removed, did_publish, is_publication, reach, of_call, opening, StepsShowPublications, PublicationsReachTheRegistry, StepsKeepTheFrame, HistoriesKeepTheFrame, LegalHistoriesCount, spent_by, LimitsAreTold, words, WordsStayAlong, named_row, without_row}
 use Rattle.board_step.proofs.Refusing.{refuses_first}
 use Rattle.board_step.proofs.SoundOpening.{apics_many}
 use Rattle.board_step.proofs.WordsStay.{words_stay}
@@ -61,18 +46,18 @@ module _ (b : Board) (caller : Caller) (ws : Wishes) where
 
   -- whether a call in range that is not refused is a publication shows in its answer
   shows_in_range : (call : Call) (r : Reply) → first_of (later_reasons b call) ≡ None → answers_of (plan_in_range routing b.shape (number_of caller) call) ≡ r ∷ [] → does_publish b call ≡ did_publish call r
-  shows_in_range (calls.Reroute rows) r free answers = ap (λ l. is_done (first_reply l)) answers
-  shows_in_range (calls.Assign trigger gsi resample) r free answers =
+  shows_in_range (Call.Reroute rows) r free answers = ap (λ l. is_done (first_reply l)) answers
+  shows_in_range (Call.Assign trigger gsi resample) r free answers =
       let plan = assigned routing b.shape b.registry b.counters trigger gsi resample in
       sym (ap is_done (answers_last (inject_count routing b.shape gsi resample _) Done r _ ws (sym (is_free _ plan free) ∙ answers)))
-  shows_in_range (calls.Watch counter gsi) r free answers = ap (λ l. is_done (first_reply l)) (sym (is_free _ _ free) ∙ answers)
-  shows_in_range (calls.Unwatch counter gsi) r free answers = ap (λ l. is_done (first_reply l)) (sym (is_free _ _ free) ∙ answers)
-  shows_in_range (calls.Deassign trigger gsi) r free answers = by_row (irqfds.named_row b.registry.irqfds trigger gsi) answers
+  shows_in_range (Call.Watch counter gsi) r free answers = ap (λ l. is_done (first_reply l)) (sym (is_free _ _ free) ∙ answers)
+  shows_in_range (Call.Unwatch counter gsi) r free answers = ap (λ l. is_done (first_reply l)) (sym (is_free _ _ free) ∙ answers)
+  shows_in_range (Call.Deassign trigger gsi) r free answers = by_row (named_row b.registry.irqfds trigger gsi) answers
     where
       by_row : (row : Option Irqfd) → answers_of (deassigned routing b.registry trigger gsi row) ≡ r ∷ [] → is_some row ≡ is_removed r
       by_row None answers = ap (λ l. is_removed (first_reply l)) answers
       by_row (Some row) answers =
-          let rows = irqfds.without_row b.registry.irqfds trigger gsi in
+          let rows = without_row b.registry.irqfds trigger gsi in
           sym (ap is_removed (answers_last (release routing gsi (was_last_resampler row rows)) (Removed 1) r _ ws answers))
   shows_in_range _ r free answers = refl
 

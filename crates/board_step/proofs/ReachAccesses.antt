@@ -1,25 +1,8 @@
 -- What accesses of the guest reach is what the table says, whatever is wished.
-use Rattle.board_step.proofs.Basics.{◌≡◌, ℕ, Bool, true, false, cond, not, ◌&&◌, ◌||◌, nat_eq, ◌-◌, if◌then◌else◌, List, [], ◌∷◌, refl, ap, ◌∙◌, Some, None, true≢false, sym, is_some, list_all, Option}
-use Rattle.board_step.proofs.Types.calls
-use Rattle.board_step.proofs.Types.spaces
-use Rattle.board_step.proofs.Types.effects
-use Rattle.board_step.proofs.Types.{greatest_vector, Space, Pin, Source, Refusal, Reply, Done, Value, Exit, Part, Registry, Counters, Pic, Ioapic, Lapic, Shape, Pair, IoapicChip, LapicEffect, TriggerWord}
-use Rattle.board_step.proofs.Chips.{Effect, Read, is_port, pair_write_to, pair_read_from, Written, write_to, resend_of, LocalApic, register_at, without_service, stored_at, store_effect, store_to, rung_by}
-use Rattle.board_step.proofs.Plans.{Board, part_of, with_part, is_same, PicPart, pair_of, with_pair, IoapicPart, ioapic_of, with_ioapic, Routing, TargetAnswer, About, injected, ipi, Plan, done, reply, ◌>>=◌, ◌>>◌, Wishes, reaches}
-use Rattle.board_step.proofs.Calls.acks
-use Rattle.board_step.proofs.Calls.{send, inject, acknowledge_each, is_ioapic_address, is_lapic_address, unless_refused, source_of, pins_with, end_vector, pic_pin}
-use Rattle.std.specs.Prelude.{drop, ◌==◌}
-use Rattle.std.specs.List.{find}
-use Rattle.lapic.specs.Registers.{row_for, all_registers}
-use Rattle.lapic.specs.Priority.{ended}
-use Rattle.lapic.specs.Offsets.{effect_at}
-use Rattle.board_model.proofs.Sequence.{reaches-bind}
-use Rattle.board_raise.proofs.Reaching.{or_false, sends_reach}
-use Rattle.board_raise.proofs.SignalReach.{signals_reach_the_same}
-use Rattle.board_raise.proofs.ReachAlike.{heard_of, Alike, alike_lapic}
+use Rattle.board_step.proofs.Basics.{◌≡◌, ℕ, Bool, true, false, cond, not, ◌&&◌, ◌||◌, nat_eq, ◌-◌, if◌then◌else◌, List, [], ◌∷◌, refl, ap, ◌∙◌, Some, None, true≢false, sym, is_some, list_all, Option, greatest_vector, Space, Pin, Source, Refusal, Reply, Done, Value, Exit, Part, Registry, Counters, Pic, Ioapic, Lapic, Shape, Pair, IoapicChip, LapicEffect, TriggerWord, Effect, Read, is_port, pair_write_to, pair_read_from, Written, write_to, resend_of, LocalApic, register_at, without_service, stored_at, store_effect, store_to, rung_by, Board, part_of, with_part, is_same, PicPart, pair_of, with_pair, IoapicPart, ioapic_of, with_ioapic, Routing, TargetAnswer, About, injected, ipi, Plan, done, reply, ◌>>=◌, ◌>>◌, Wishes, reaches, send, inject, acknowledge_each, is_ioapic_address, is_lapic_address, unless_refused, source_of, pins_with, end_vector, pic_pin, drop, ◌==◌, find, row_for, all_registers, ended, effect_at, reaches-bind, or_false, sends_reach, signals_reach_the_same, heard_of, Alike, alike_lapic, each_same, twice, resend_reach, each_reach, Call}
+use Rattle.board_step.proofs.Basics.acks
 use Rattle.board_step.specs.Reach as table
 use Rattle.board_calls.specs.Accesses as accesses
-use Rattle.board_ack.proofs.ReachAcknowledge.{each_same, twice, resend_reach, each_reach}
 
 -- ---- what is found in a list
 
@@ -56,20 +39,20 @@ less_service a (Some vector) = refl
 
 -- where a store ends a vector, the same messages name the local APIC after it
 abbrev HearsAfter : LocalApic → LapicEffect → LocalApic → Type 0
-HearsAfter a effects.Plain after = Unit {0}
-HearsAfter a (effects.Ended vector) after = heard_of after ≡ heard_of a
-HearsAfter a (effects.Send message) after = Unit {0}
+HearsAfter a LapicEffect.Plain after = Unit {0}
+HearsAfter a (LapicEffect.Ended vector) after = heard_of after ≡ heard_of a
+HearsAfter a (LapicEffect.Send message) after = Unit {0}
 
 -- a store that ends no vector
 abbrev ends_none : LapicEffect → Bool
-ends_none effects.Plain = true
-ends_none (effects.Ended vector) = false
-ends_none (effects.Send message) = true
+ends_none LapicEffect.Plain = true
+ends_none (LapicEffect.Ended vector) = false
+ends_none (LapicEffect.Send message) = true
 
 hears_anyhow : (a : LocalApic) (effect : LapicEffect) (after : LocalApic) → ends_none effect ≡ true → HearsAfter a effect after
-hears_anyhow a effects.Plain after none = tt
-hears_anyhow a (effects.Ended vector) after none = absurd (true≢false (sym none))
-hears_anyhow a (effects.Send message) after none = tt
+hears_anyhow a LapicEffect.Plain after none = tt
+hears_anyhow a (LapicEffect.Ended vector) after none = absurd (true≢false (sym none))
+hears_anyhow a (LapicEffect.Send message) after none = tt
 
 -- of all registers the EOI register alone, the fifth, ends a vector
 hears_after : (a : LocalApic) (offset value : ℕ) → HearsAfter a (store_effect a offset value) (store_to a offset value)
@@ -163,14 +146,14 @@ module _ (routing : Routing) (shape : Shape) (q : Part) where
   ring_reach : (space : Space) (address len value : ℕ) (b : Board) (ws : Wishes) → reaches (accesses.ring routing shape space address len value) b ws q ≡ table.of_ring acks.of_acknowledge_each routing shape b space address len value q
   ring_reach space address len value b ws = ap (λ x. is_same Registry q || x) (rung_reach (rung_by b.registry.ioevents space address len value) b ws)
 
-  pub port_out_reach : (port len value n : ℕ) (b : Board) (ws : Wishes) → reaches (accesses.port_out routing shape port len value) b ws q ≡ table.of_call acks.of_acknowledge_each routing shape b n (calls.PortOut port len value) q
-  port_out_reach port len value n b ws = elim (is_port port) as (λ t. reaches (if t then accesses.pair_write routing shape port len value else accesses.ring routing shape spaces.Port port len value) b ws q
-      ≡ (if t then table.of_pair acks.of_acknowledge_each routing shape b len (pair_write_to (pair_of b.pic) port value).pin q else table.of_ring acks.of_acknowledge_each routing shape b spaces.Port port len value q)) [
+  pub port_out_reach : (port len value n : ℕ) (b : Board) (ws : Wishes) → reaches (accesses.port_out routing shape port len value) b ws q ≡ table.of_call acks.of_acknowledge_each routing shape b n (Call.PortOut port len value) q
+  port_out_reach port len value n b ws = elim (is_port port) as (λ t. reaches (if t then accesses.pair_write routing shape port len value else accesses.ring routing shape Space.Port port len value) b ws q
+      ≡ (if t then table.of_pair acks.of_acknowledge_each routing shape b len (pair_write_to (pair_of b.pic) port value).pin q else table.of_ring acks.of_acknowledge_each routing shape b Space.Port port len value q)) [
         | true ↦ pair_write_reach port len value b ws
-        | false ↦ ring_reach spaces.Port port len value b ws
+        | false ↦ ring_reach Space.Port port len value b ws
       ]
 
-  pub port_in_reach : (port len n : ℕ) (b : Board) (ws : Wishes) → reaches (accesses.port_in routing shape port len) b ws q ≡ table.of_call acks.of_acknowledge_each routing shape b n (calls.PortIn port len) q
+  pub port_in_reach : (port len n : ℕ) (b : Board) (ws : Wishes) → reaches (accesses.port_in routing shape port len) b ws q ≡ table.of_call acks.of_acknowledge_each routing shape b n (Call.PortIn port len) q
   port_in_reach port len n b ws = elim (is_port port) as (λ t. reaches (if t then accesses.pair_read routing shape port len else reply Exit) b ws q
       ≡ (if t then table.of_pair acks.of_acknowledge_each routing shape b len (pair_read_from (pair_of b.pic) port).pin q else false)) [
         | true ↦ pair_read_reach port len b ws
@@ -218,10 +201,10 @@ module _ (routing : Routing) (shape : Shape) (q : Part) where
 
   effect_reach : (n : ℕ) (effect : LapicEffect) (after : LocalApic) (b : Board) (ws : Wishes) → HearsAfter (part_of b (Lapic n)) effect after
       → reaches (accesses.store_effects routing shape n effect) (with_part b (Lapic n) after) ws q ≡ table.of_effect acks.of_acknowledge_each routing shape b n effect q
-  effect_reach n effects.Plain after b ws hears = refl
-  effect_reach n (effects.Ended vector) after b ws hears =
+  effect_reach n LapicEffect.Plain after b ws hears = refl
+  effect_reach n (LapicEffect.Ended vector) after b ws hears =
       end_reach vector (with_part b (Lapic n) after) ws q ∙ end_same (with_part b (Lapic n) after) b vector q (alike_lapic b n after hears)
-  effect_reach n (effects.Send message) after b ws hears =
+  effect_reach n (LapicEffect.Send message) after b ws hears =
       dropped q (send shape.cpus message.message (Some (n, message.to)) ipi) (with_part b (Lapic n) after) ws
       ∙ sends_reach shape.cpus message.message (Some (n, message.to)) ipi (with_part b (Lapic n) after) ws q
 
@@ -243,19 +226,19 @@ module _ (routing : Routing) (shape : Shape) (q : Part) where
   store_reach n address len value b ws = elim (is_ioapic_address address) as (λ t. reaches (if t then accesses.ioapic_store shape (address - 0xfec00000) len value else others) b ws q
       ≡ (if t then is_same Ioapic q || (nat_eq len 4 && table.of_written acks.of_acknowledge_each routing shape b.ioapic (write_to (ioapic_of b.ioapic) (address - 0xfec00000) value) q) else of_others)) [
         | true ↦ ioapic_store_reach (address - 0xfec00000) len value b ws
-        | false ↦ elim (is_lapic_address address) as (λ t. reaches (if t then accesses.lapic_store routing shape n (address - 0xfee00000) len value else accesses.ring routing shape spaces.Memory address len value) b ws q
-            ≡ (if t then is_same (Lapic n) q || (nat_eq len 4 && table.of_effect acks.of_acknowledge_each routing shape b n (store_effect (part_of b (Lapic n)) (address - 0xfee00000) value) q) else table.of_ring acks.of_acknowledge_each routing shape b spaces.Memory address len value q)) [
+        | false ↦ elim (is_lapic_address address) as (λ t. reaches (if t then accesses.lapic_store routing shape n (address - 0xfee00000) len value else accesses.ring routing shape Space.Memory address len value) b ws q
+            ≡ (if t then is_same (Lapic n) q || (nat_eq len 4 && table.of_effect acks.of_acknowledge_each routing shape b n (store_effect (part_of b (Lapic n)) (address - 0xfee00000) value) q) else table.of_ring acks.of_acknowledge_each routing shape b Space.Memory address len value q)) [
               | true ↦ lapic_store_reach n (address - 0xfee00000) len value b ws
-              | false ↦ ring_reach spaces.Memory address len value b ws
+              | false ↦ ring_reach Space.Memory address len value b ws
             ]
       ]
     where
       others : Plan (Unit {0})
-      others = if is_lapic_address address then accesses.lapic_store routing shape n (address - 0xfee00000) len value else accesses.ring routing shape spaces.Memory address len value
+      others = if is_lapic_address address then accesses.lapic_store routing shape n (address - 0xfee00000) len value else accesses.ring routing shape Space.Memory address len value
 
       of_others : Bool
       of_others = if is_lapic_address address then is_same (Lapic n) q || (nat_eq len 4 && table.of_effect acks.of_acknowledge_each routing shape b n (store_effect (part_of b (Lapic n)) (address - 0xfee00000) value) q)
-          else table.of_ring acks.of_acknowledge_each routing shape b spaces.Memory address len value q
+          else table.of_ring acks.of_acknowledge_each routing shape b Space.Memory address len value q
 
   pub load_reach : (n address len : ℕ) (b : Board) (ws : Wishes) → reaches (accesses.load n address len) b ws q ≡ table.of_load acks.of_acknowledge_each routing shape n address q
   load_reach n address len b ws = by_tests (is_ioapic_address address) (is_lapic_address address)

@@ -1,16 +1,5 @@
 -- What an acknowledge changes of the I/O APIC is of its own pins: it leaves the others as they are.
-use Rattle.board_step.proofs.Basics.set
-use Rattle.board_step.proofs.Basics.{◌≡◌, ℕ, Bool, true, false, not, ◌&&◌, ◌||◌, nat_eq, nat_lt, if◌then◌else◌, inl, inr, refl, sym, ap, ◌∙◌, subst, arith, Some, None, Option, unsigned_Decides, contains-insert, contains-remove, eq_by_cmp}
-use Rattle.board_step.proofs.Types.pins
-use Rattle.board_step.proofs.Types.raises
-use Rattle.board_step.proofs.Types.{contains-set_below, Pin, Message, MsiWord, Source, Resample, TickSource, Tick, Ioapic, Shape, Raise}
-use Rattle.board_step.proofs.Chips.{entry_at, raise_of, pin_acked, pin_accepted, has_resampler, message_in, PinHolds, hold, hold_cmp, is_high, ack_injects, tick_acked, tick_injected}
-use Rattle.board_step.proofs.Plans.{Board, with_part, IoapicPart, ioapic_of, with_ioapic, Routing, nobody, TargetAnswer, status_of, About, injected, resent, ipi, the_reply, Plan, done, change, ◌>>=◌, ◌>>◌, Wishes, Outcome, run}
-use Rattle.board_step.proofs.Calls.{show, send, ioapic_raised, ioapic_let_go, is_accepted, accept_pin, answer_shown, ioapic_answered, raise_pic, raise_other, raise, let_go, let_go_after, inject, tell_concerned, end_level, end_tick, acknowledge, inject_tick, inject_next, acknowledge_tick, entry_ended}
-use Rattle.std.specs.Prelude.{◌⊎◌}
-use Rattle.source_levels.proofs.HoldLemmas.{hold_cmp_total, high_where_held, held_where_high}
-use Rattle.board_model.proofs.Sequence.{run-bind}
-use Rattle.board_step.specs.ReachNow.{pin_freed, part_freed}
+use Rattle.board_step.proofs.Basics.{◌≡◌, ℕ, Bool, true, false, not, ◌&&◌, ◌||◌, nat_eq, nat_lt, if◌then◌else◌, inl, inr, refl, sym, ap, ◌∙◌, subst, arith, Some, None, Option, unsigned_Decides, contains-insert, contains-remove, eq_by_cmp, contains-set_below, Pin, Message, MsiWord, Source, Resample, TickSource, Tick, Ioapic, Shape, Raise, entry_at, raise_of, pin_acked, pin_accepted, has_resampler, message_in, Holds as PinHolds, hold, hold_cmp, is_high, ack_injects, tick_acked, tick_injected, Board, with_part, IoapicPart, ioapic_of, with_ioapic, Routing, nobody, TargetAnswer, status_of, About, injected, resent, ipi, the_reply, Plan, done, change, ◌>>=◌, ◌>>◌, Wishes, Outcome, run, show, send, ioapic_raised, ioapic_let_go, is_accepted, accept_pin, answer_shown, ioapic_answered, raise_pic, raise_other, raise, let_go, let_go_after, inject, tell_concerned, end_level, end_tick, acknowledge, inject_tick, inject_next, acknowledge_tick, entry_ended, ◌⊎◌, hold_cmp_total, high_where_held, held_where_high, run-bind, pin_freed, part_freed, contains}
 use Rattle.board_step.proofs.ReachPins.{irr_cleared, irr_accepted, acked_entry, accepted_entry, sent_registry, sent_ioapic, MarksResamplers, told_holds, SentAgain, level_ends}
 
 -- ---- one pin of the I/O APIC that stays
@@ -18,7 +7,7 @@ use Rattle.board_step.proofs.ReachPins.{irr_cleared, irr_accepted, acked_entry, 
 -- two I/O APICs have the entry of a pin the same, and the same sources hold the pin
 pub record SamePin (pin : ℕ) (part other : IoapicPart) : Type 0 where
   pub entry : entry_at (ioapic_of other) pin ≡ entry_at (ioapic_of part) pin
-  pub holds : (source : Source) → set.contains other.holds (hold pin source) ≡ set.contains part.holds (hold pin source)
+  pub holds : (source : Source) → contains other.holds (hold pin source) ≡ contains part.holds (hold pin source)
 
 pub pin_itself : (pin : ℕ) (part : IoapicPart) → SamePin pin part part
 pin_itself pin part = record { entry = refl; holds = λ source. refl }
@@ -29,13 +18,13 @@ pin_on h k = record { entry = k.entry ∙ h.entry; holds = λ source. k.holds so
 same_tests : (a b : Bool) → (a ≡ true → b ≡ true) → (b ≡ true → a ≡ true) → a ≡ b
 same_tests a b h1 h2 = grind arith
 
-high_by_holds : (s t : PinHolds) (pin : ℕ) → ((source : Source) → set.contains t (hold pin source) ≡ set.contains s (hold pin source)) → is_high t pin ≡ is_high s pin
+high_by_holds : (s t : PinHolds) (pin : ℕ) → ((source : Source) → contains t (hold pin source) ≡ contains s (hold pin source)) → is_high t pin ≡ is_high s pin
 high_by_holds s t pin same = same_tests _ _
     (λ high. let one = held_where_high t pin high in high_where_held s pin one.0 (sym (same one.0) ∙ one.1))
     (λ high. let one = held_where_high s pin high in high_where_held t pin one.0 (same one.0 ∙ one.1))
 
 -- and so its level
-pub same_level : {pin : ℕ} {part other : IoapicPart} → SamePin pin part other → set.contains (ioapic_of other).high pin ≡ set.contains (ioapic_of part).high pin
+pub same_level : {pin : ℕ} {part other : IoapicPart} → SamePin pin part other → contains (ioapic_of other).high pin ≡ contains (ioapic_of part).high pin
 same_level {pin} {part} {other} h =
     contains-set_below 24 (is_high other.holds) pin
     ∙ ap (λ t. nat_lt pin 24 && t) (high_by_holds part.holds other.holds pin h.holds)
@@ -50,13 +39,13 @@ module _ (pin at : ℕ) (other : nat_eq at pin ≡ false) (part : IoapicPart) wh
   pub raised_pin : (own : Source) → SamePin pin part (ioapic_raised part at own)
   raised_pin own = record {
     entry = refl;
-    holds = λ source. contains-insert hold_cmp_total part.holds (hold at own) (hold pin source) ∙ ap (λ t. t || set.contains part.holds (hold pin source)) (untied source own);
+    holds = λ source. contains-insert hold_cmp_total part.holds (hold at own) (hold pin source) ∙ ap (λ t. t || contains part.holds (hold pin source)) (untied source own);
   }
 
   pub let_go_pin : (own : Source) → SamePin pin part (ioapic_let_go part at own)
   let_go_pin own = record {
     entry = refl;
-    holds = λ source. contains-remove hold_cmp_total part.holds (hold at own) (hold pin source) ∙ ap (λ t. not t && set.contains part.holds (hold pin source)) (untied source own);
+    holds = λ source. contains-remove hold_cmp_total part.holds (hold at own) (hold pin source) ∙ ap (λ t. not t && contains part.holds (hold pin source)) (untied source own);
   }
 
   pub acked_pin : SamePin pin part (with_ioapic part (pin_acked (ioapic_of part) at))
@@ -132,9 +121,9 @@ module _ (pin : ℕ) where
   raised_pic (Some p) source = λ b ws. record { registry = refl; ioapic = pin_itself pin b.ioapic }
 
   pin_answered : (cpus at : ℕ) → nat_eq at pin ≡ false → (about : About) (answer : Raise) → Leaves (ioapic_answered cpus at about answer)
-  pin_answered cpus at other about raises.Masked = answered about _
-  pin_answered cpus at other about raises.Stood = answered about _
-  pin_answered cpus at other about (raises.Send message) =
+  pin_answered cpus at other about Raise.Masked = answered about _
+  pin_answered cpus at other about Raise.Stood = answered about _
+  pin_answered cpus at other about (Raise.Send message) =
       bound (λ answer. accept_pin at (is_accepted message answer) >> done (Some answer)) (send cpus message None about) (sent cpus message about)
       (λ answer. bound (λ _. done (Some answer)) (accept_pin at (is_accepted message answer)) (accepted at other (is_accepted message answer)) (λ _. ended (Some answer)))
 
@@ -187,14 +176,14 @@ module _ (pin : ℕ) where
 
     -- an acknowledged pin is another
     abbrev pub IsOtherPin : Pin → Type 0
-    IsOtherPin (pins.Pic p) = Unit {0}
-    IsOtherPin (pins.Ioapic at) = nat_eq at pin ≡ false
+    IsOtherPin (Pin.Pic p) = Unit {0}
+    IsOtherPin (Pin.Ioapic at) = nat_eq at pin ≡ false
 
     level_leaves : (acked : Pin) → IsOtherPin acked → Leaves (end_level shape.cpus acked)
-    level_leaves (pins.Pic p) other = nothing
-    level_leaves (pins.Ioapic at) other = λ b ws.
+    level_leaves (Pin.Pic p) other = nothing
+    level_leaves (Pin.Ioapic at) other = λ b ws.
         let ends = level_ends shape.cpus at b ws in
-        record { registry = ends.registry; ioapic = by_end b (run (end_level shape.cpus (pins.Ioapic at)) b ws).board.ioapic ends.ioapic }
+        record { registry = ends.registry; ioapic = by_end b (run (end_level shape.cpus (Pin.Ioapic at)) b ws).board.ioapic ends.ioapic }
       where
         cleared_pin : (part : IoapicPart) (t : Bool) → SamePin pin part (if t then with_ioapic part (pin_acked (ioapic_of part) at) else part)
         cleared_pin part true = acked_pin pin at other part

@@ -1,21 +1,8 @@
 -- What each call reaches is what the table says, whatever is wished.
-use Rattle.board_step.proofs.Basics.{◌≡◌, ℕ, Bool, true, false, not, ◌&&◌, ◌||◌, nat_eq, nat_lt, if◌then◌else◌, [], ◌∷◌, ◌++◌, refl, sym, ap, ◌∙◌, Some, None, slice_index, is_some, Option}
-use Rattle.board_step.proofs.Types.calls
-use Rattle.board_step.proofs.Types.sources
-use Rattle.board_step.proofs.Types.{greatest_vector, first_of, Call, Refusal, Done, Removed, Extint, Vector, Part, Registry, Counters, Tick, Pic, Ioapic, Lapic, Shape, TickState, Irqfd, TriggerWord}
-use Rattle.board_step.proofs.Chips.ioevents
-use Rattle.board_step.proofs.Chips.watches
-use Rattle.board_step.proofs.Chips.{has_output, cycle, LocalApic, message_in, tick_injects, ticked, taken, written, named_row, without_row, with_row}
-use Rattle.board_step.proofs.Plans.{Board, part_of, with_part, is_same, pair_of, with_pair, Routing, routing_of_registry, injected, the_reply, Plan, reply, ◌>>◌, Wishes, reaches}
-use Rattle.board_step.proofs.Calls.acks
-use Rattle.board_step.proofs.Calls.{send, raise, inject, let_go, of_message, of_fall, assign_reasons, write_reasons, attach_reasons, detach_reasons, watch_reasons, unwatch_reasons, range_reasons, unless_refused, source_of, assigned, inject_count, was_last_resampler, release, deassigned, tick_or_hold, end_vector, cycle_pins, cycle_made, hears_pair, give, give_of_pair, take_nmi, io_row, number_of, plan_in_range}
-use Rattle.board_model.specs.Plan.{set}
-use Rattle.board_raise.proofs.Reaching.{or_false, sends_reach}
-use Rattle.board_raise.proofs.SignalReach.{signals_reach_the_same}
+use Rattle.board_step.proofs.Basics.{◌≡◌, ℕ, Bool, true, false, not, ◌&&◌, ◌||◌, nat_eq, nat_lt, if◌then◌else◌, [], ◌∷◌, ◌++◌, refl, sym, ap, ◌∙◌, Some, None, slice_index, is_some, Option, greatest_vector, first_of, Call, Refusal, Done, Removed, Extint, Vector, Part, Registry, Counters, Tick, Pic, Ioapic, Lapic, Shape, TickState, Irqfd, TriggerWord, has_output, cycle, LocalApic, message_in, tick_injects, ticked, taken, written, named_row, without_row, with_row, Board, part_of, with_part, is_same, pair_of, with_pair, Routing, routing_of_registry, injected, the_reply, Plan, reply, ◌>>◌, Wishes, reaches, send, raise, inject, let_go, of_message, of_fall, assign_reasons, write_reasons, attach_reasons, detach_reasons, watch_reasons, unwatch_reasons, range_reasons, unless_refused, source_of, assigned, inject_count, was_last_resampler, release, deassigned, tick_or_hold, end_vector, cycle_pins, cycle_made, hears_pair, give, give_of_pair, take_nmi, io_row, number_of, plan_in_range, set, or_false, sends_reach, signals_reach_the_same, ReachIsTable, gsi_same, twice, inject_tick_reach, Source, without_ioevent, with_watch, without_watch}
+use Rattle.board_step.proofs.Basics.acks
 use Rattle.board_step.specs.Reach as table
 use Rattle.board_calls.specs.Registrations as registrations
-use Rattle.board_step.specs.Laws.{ReachIsTable}
-use Rattle.board_ack.proofs.ReachAcknowledge.{gsi_same, twice, inject_tick_reach}
 use Rattle.board_step.proofs.ReachAccesses.{dropped, replied, refused_reach, within_one, inject_reach, answered_reach, port_out_reach, port_in_reach, ended_reach, store_reach, load_reach}
 
 -- ---- truth values
@@ -38,11 +25,11 @@ last_again false p = refl
 module _ (routing : Routing) (shape : Shape) (q : Part) where
   -- ---- lines, messages and counters
 
-  line_reach : (gsi line : ℕ) (high : Bool) (n : ℕ) (b : Board) (ws : Wishes) → reaches (registrations.line_set routing shape gsi line high) b ws q ≡ table.of_call acks.of_acknowledge_each routing shape b n (calls.Line gsi line high) q
+  line_reach : (gsi line : ℕ) (high : Bool) (n : ℕ) (b : Board) (ws : Wishes) → reaches (registrations.line_set routing shape gsi line high) b ws q ≡ table.of_call acks.of_acknowledge_each routing shape b n (Call.Line gsi line high) q
   line_reach gsi line true n b ws =
-      dropped q (raise shape.cpus (routing.targets gsi) (sources.Line line) (λ pic. the_reply pic)) b ws
-      ∙ (signals_reach_the_same shape.cpus (routing.targets gsi) (sources.Line line) (λ pic. the_reply pic) b ws q).raised
-  line_reach gsi line false n b ws = (signals_reach_the_same shape.cpus (routing.targets gsi) (sources.Line line) (λ pic. the_reply pic) b ws q).fallen
+      dropped q (raise shape.cpus (routing.targets gsi) (Source.Line line) (λ pic. the_reply pic)) b ws
+      ∙ (signals_reach_the_same shape.cpus (routing.targets gsi) (Source.Line line) (λ pic. the_reply pic) b ws q).raised
+  line_reach gsi line false n b ws = (signals_reach_the_same shape.cpus (routing.targets gsi) (Source.Line line) (λ pic. the_reply pic) b ws q).fallen
 
   message_reach : (address payload : ℕ) (b : Board) (ws : Wishes) → reaches (registrations.message_sent shape address payload) b ws q ≡ of_message (message_in address payload) None shape.cpus q
   message_reach address payload b ws =
@@ -86,9 +73,9 @@ module _ (routing : Routing) (shape : Shape) (q : Part) where
 
   release_reach : (gsi : ℕ) (t : Bool) (b : Board) (ws : Wishes) → reaches (release routing gsi t >> reply (Removed 1)) b ws q ≡ (t && of_fall (routing.targets gsi) q)
   release_reach gsi true b ws =
-      replied q (let_go (routing.targets gsi) sources.Resample) (Removed 1) b ws
-      ∙ sym (replied q (let_go (routing.targets gsi) sources.Resample) _ b ws)
-      ∙ (signals_reach_the_same shape.cpus (routing.targets gsi) sources.Resample (λ pic. the_reply pic) b ws q).fallen
+      replied q (let_go (routing.targets gsi) Source.Resample) (Removed 1) b ws
+      ∙ sym (replied q (let_go (routing.targets gsi) Source.Resample) _ b ws)
+      ∙ (signals_reach_the_same shape.cpus (routing.targets gsi) Source.Resample (λ pic. the_reply pic) b ws q).fallen
   release_reach gsi false b ws = refl
 
   deassign_reach : (trigger gsi : ℕ) (row : Option Irqfd) (b : Board) (ws : Wishes) → (is_same Registry q || reaches (deassigned routing b.registry trigger gsi row) b ws q)
@@ -122,7 +109,7 @@ module _ (routing : Routing) (shape : Shape) (q : Part) where
       made : Plan (Unit {0})
       made = cycle_made routing shape b.pic (cycle (pair_of b.pic)) (Extint (cycle (pair_of b.pic)).vector)
 
-  ack_reach : (n : ℕ) (b : Board) (ws : Wishes) → reaches (plan_in_range routing shape n calls.Ack) b ws q ≡ table.of_ack acks.of_acknowledge_each routing shape b n (part_of b (Lapic n)) q
+  ack_reach : (n : ℕ) (b : Board) (ws : Wishes) → reaches (plan_in_range routing shape n Call.Ack) b ws q ≡ table.of_ack acks.of_acknowledge_each routing shape b n (part_of b (Lapic n)) q
   ack_reach n b ws = by_tests (part_of b (Lapic n)).nmi (hears_pair n (part_of b (Lapic n)))
     where
       by_tests : (s t : Bool) → (is_same (Lapic n) q || reaches (if s then take_nmi n (part_of b (Lapic n)) else if t then give_of_pair routing shape n (part_of b (Lapic n)) else give n (part_of b (Lapic n))) b ws q)
@@ -131,7 +118,7 @@ module _ (routing : Routing) (shape : Shape) (q : Part) where
       by_tests false true = given_reach n (part_of b (Lapic n)) b ws
       by_tests false false = twice (is_same (Lapic n) q) false
 
-  eoi_reach : (n : ℕ) (b : Board) (ws : Wishes) → reaches (plan_in_range routing shape n calls.Eoi) b ws q ≡ table.of_call acks.of_acknowledge_each routing shape b n calls.Eoi q
+  eoi_reach : (n : ℕ) (b : Board) (ws : Wishes) → reaches (plan_in_range routing shape n Call.Eoi) b ws q ≡ table.of_call acks.of_acknowledge_each routing shape b n Call.Eoi q
   eoi_reach n b ws =
       twice (is_same (Lapic n) q) _
       ∙ ap (λ x. is_same (Lapic n) q || x) (replied q (end_vector routing shape (greatest_vector (part_of b (Lapic n)).isr)) _ _ ws ∙ ended_reach routing shape q n (greatest_vector (part_of b (Lapic n)).isr) b ws)
@@ -139,26 +126,26 @@ module _ (routing : Routing) (shape : Shape) (q : Part) where
   -- ---- all calls
 
   call_reach : (n : ℕ) (call : Call) (b : Board) (ws : Wishes) → reaches (plan_in_range routing shape n call) b ws q ≡ table.of_call acks.of_acknowledge_each routing shape b n call q
-  call_reach n (calls.Line gsi line high) b ws = line_reach gsi line high n b ws
-  call_reach n (calls.Msi address payload) b ws = message_reach address payload b ws
-  call_reach n (calls.Write counter count) b ws = write_reach (routing.trigger counter) counter count b ws
-  call_reach n (calls.Take counter) b ws = twice (is_same Counters q) false ∙ or_false _
-  call_reach n (calls.Assign trigger gsi resample) b ws = assign_reach trigger gsi resample b ws
-  call_reach n (calls.Deassign trigger gsi) b ws = deassign_reach trigger gsi (named_row b.registry.irqfds trigger gsi) b ws
-  call_reach n (calls.Reroute rows) b ws = each_again (is_same Registry q) (is_same Pic q) (is_same Ioapic q)
-  call_reach n (calls.Attach space address len counter want) b ws = within_one q (is_same Registry q) (first_of (attach_reasons b.registry (io_row space address len counter want))) (set Registry (record b.registry { ioevents = b.registry.ioevents ++ io_row space address len counter want ∷ [] }) >> reply Done) b ws refl
-  call_reach n (calls.Detach space address len counter want) b ws = within_one q (is_same Registry q) (first_of (detach_reasons b.registry (io_row space address len counter want))) (set Registry (record b.registry { ioevents = ioevents.without_row b.registry.ioevents (io_row space address len counter want) }) >> reply Done) b ws refl
-  call_reach n (calls.Watch counter gsi) b ws = within_one q (is_same Registry q) (first_of (watch_reasons b.registry counter gsi)) (set Registry (record b.registry { watches = watches.with_row b.registry.watches counter gsi }) >> reply Done) b ws refl
-  call_reach n (calls.Unwatch counter gsi) b ws = within_one q (is_same Registry q) (first_of (unwatch_reasons b.registry counter gsi)) (set Registry (record b.registry { watches = watches.without_row b.registry.watches counter gsi }) >> reply Done) b ws refl
-  call_reach n calls.Tick b ws = tick_reach (tick_injects b.tick) (ticked b.tick) b ws
-  call_reach n (calls.TickMode reinject) b ws = or_false (is_same Tick q)
-  call_reach n (calls.PortOut port len value) b ws = port_out_reach routing shape q port len value n b ws
-  call_reach n (calls.PortIn port len) b ws = port_in_reach routing shape q port len n b ws
-  call_reach n (calls.Store address len value) b ws = store_reach routing shape q n address len value b ws
-  call_reach n (calls.Load address len) b ws = load_reach routing shape q n address len b ws
-  call_reach n calls.Ack b ws = ack_reach n b ws
-  call_reach n calls.Inta b ws = answered_reach routing shape q (with_pair b.pic (cycle (pair_of b.pic)).after) (cycle_pins (cycle (pair_of b.pic)).pins) (Vector (cycle (pair_of b.pic)).vector) b ws
-  call_reach n calls.Eoi b ws = eoi_reach n b ws
+  call_reach n (Call.Line gsi line high) b ws = line_reach gsi line high n b ws
+  call_reach n (Call.Msi address payload) b ws = message_reach address payload b ws
+  call_reach n (Call.Write counter count) b ws = write_reach (routing.trigger counter) counter count b ws
+  call_reach n (Call.Take counter) b ws = twice (is_same Counters q) false ∙ or_false _
+  call_reach n (Call.Assign trigger gsi resample) b ws = assign_reach trigger gsi resample b ws
+  call_reach n (Call.Deassign trigger gsi) b ws = deassign_reach trigger gsi (named_row b.registry.irqfds trigger gsi) b ws
+  call_reach n (Call.Reroute rows) b ws = each_again (is_same Registry q) (is_same Pic q) (is_same Ioapic q)
+  call_reach n (Call.Attach space address len counter want) b ws = within_one q (is_same Registry q) (first_of (attach_reasons b.registry (io_row space address len counter want))) (set Registry (record b.registry { ioevents = b.registry.ioevents ++ io_row space address len counter want ∷ [] }) >> reply Done) b ws refl
+  call_reach n (Call.Detach space address len counter want) b ws = within_one q (is_same Registry q) (first_of (detach_reasons b.registry (io_row space address len counter want))) (set Registry (record b.registry { ioevents = without_ioevent b.registry.ioevents (io_row space address len counter want) }) >> reply Done) b ws refl
+  call_reach n (Call.Watch counter gsi) b ws = within_one q (is_same Registry q) (first_of (watch_reasons b.registry counter gsi)) (set Registry (record b.registry { watches = with_watch b.registry.watches counter gsi }) >> reply Done) b ws refl
+  call_reach n (Call.Unwatch counter gsi) b ws = within_one q (is_same Registry q) (first_of (unwatch_reasons b.registry counter gsi)) (set Registry (record b.registry { watches = without_watch b.registry.watches counter gsi }) >> reply Done) b ws refl
+  call_reach n Call.Tick b ws = tick_reach (tick_injects b.tick) (ticked b.tick) b ws
+  call_reach n (Call.TickMode reinject) b ws = or_false (is_same Tick q)
+  call_reach n (Call.PortOut port len value) b ws = port_out_reach routing shape q port len value n b ws
+  call_reach n (Call.PortIn port len) b ws = port_in_reach routing shape q port len n b ws
+  call_reach n (Call.Store address len value) b ws = store_reach routing shape q n address len value b ws
+  call_reach n (Call.Load address len) b ws = load_reach routing shape q n address len b ws
+  call_reach n Call.Ack b ws = ack_reach n b ws
+  call_reach n Call.Inta b ws = answered_reach routing shape q (with_pair b.pic (cycle (pair_of b.pic)).after) (cycle_pins (cycle (pair_of b.pic)).pins) (Vector (cycle (pair_of b.pic)).vector) b ws
+  call_reach n Call.Eoi b ws = eoi_reach n b ws
 
 pub reach_is_table : ReachIsTable
 reach_is_table b caller call ws q =

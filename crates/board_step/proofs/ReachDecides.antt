@@ -1,18 +1,5 @@
 -- A step changes nothing outside its reach, and depends on nothing else but the published words.
-use Rattle.board_step.proofs.Basics.{◌≡◌, Bool, true, false, refl, sym, ap, ◌∙◌, length}
-use Rattle.board_step.proofs.Types.{is_allowed, Call, Caller, Part, Registry}
-use Rattle.board_step.proofs.Plans.{Board, part_of, routing_of_registry, run, reaches, RegistryPart}
-use Rattle.board_step.proofs.Calls.{plan_of}
-use Rattle.board_model.specs.Agreement.{RunsAlike}
-use Rattle.board_model.proofs.Alike.{agreeing_alike}
-use Rattle.board_model.proofs.Staying.{unreached_stays}
-use Rattle.board_model.specs.Laws.{PublishTheSame}
-use Rattle.board_model.proofs.Words.{published_decides}
-use Rattle.board_model.proofs.Tables.{published_decides_the_table}
-use Rattle.board_step.specs.Step.{would_publish, with_counts, plan_on, outcome_of, counted}
-use Rattle.board_step.specs.Sound.{IsSound}
-use Rattle.board_step.specs.Laws.{StaysOutsideReach, SamePart, AgreesForCall, DependsOnReach}
-use Rattle.board_step.specs.Reach.{reach}
+use Rattle.board_step.proofs.Basics.{◌≡◌, Bool, true, false, refl, sym, ap, ◌∙◌, length, is_allowed, Call, Caller, Part, Registry, Board, part_of, routing_of_registry, run, reaches, RegistryPart, plan_of, RunsAlike, agreeing_alike, unreached_stays, PublishTheSame, published_decides, published_decides_the_table, would_publish, with_counts, plan_on, outcome_of, counted, IsSound, StaysOutsideReach, SamePart, AgreesForCall, DependsOnReach, reach}
 use Rattle.board_step.proofs.ReachCalls.{reach_is_table}
 
 -- to count a call changes no part

@@ -1,17 +1,5 @@
 -- What acknowledges of pins of different GSIs reach, one after another, is told by the board before the first.
-use Rattle.board_step.proofs.Basics.{◌≡◌, ℕ, Bool, true, false, not, ◌&&◌, ◌||◌, nat_eq, if◌then◌else◌, List, [], ◌∷◌, inl, inr, refl, sym, ap, ◌∙◌, subst, Some, None, unsigned_Decides, Option, contains-remove, eq_by_cmp}
-use Rattle.board_step.proofs.Types.pins
-use Rattle.board_step.proofs.Types.{Pin, Message, MsiWord, Resample, Part, Tick, Pic, Ioapic, Shape, IoapicChip}
-use Rattle.board_step.proofs.Chips.{message_of, entry_at, pin_acked, has_resampler, hold, hold_cmp, ack_injects, is_same_pin, has_pin}
-use Rattle.board_step.proofs.Plans.{Board, is_same, IoapicPart, ioapic_of, with_ioapic, Routing, done, ◌>>◌, Wishes, Outcome, run}
-use Rattle.board_step.proofs.Calls.{of_pin, of_answer, of_other, tell_concerned, end_level, end_tick, acknowledge, acknowledge_tick, board_by, of_marked, of_resend, of_level, of_tick, of_acknowledge_each}
-use Rattle.std.specs.Prelude.{◌⊎◌}
-use Rattle.ioapic_82093aa.specs.declared.entry.Entry.{Entry}
-use Rattle.source_levels.proofs.HoldLemmas.{hold_cmp_total}
-use Rattle.route_table.proofs.TableLaws.{is_same-some}
-use Rattle.board_model.proofs.Sequence.{run-bind}
-use Rattle.board_ack.proofs.Counting.{acknowledge_tells}
-use Rattle.board_step.specs.ReachNow.{pin_freed, part_freed, freed, part_cleared, cleared, of_acknowledge_now, of_acknowledges_now}
+use Rattle.board_step.proofs.Basics.{◌≡◌, ℕ, Bool, true, false, not, ◌&&◌, ◌||◌, nat_eq, if◌then◌else◌, List, [], ◌∷◌, inl, inr, refl, sym, ap, ◌∙◌, subst, Some, None, unsigned_Decides, Option, contains-remove, eq_by_cmp, Pin, Message, MsiWord, Resample, Part, Tick, Pic, Ioapic, Shape, IoapicChip, message_of, entry_at, pin_acked, has_resampler, hold, hold_cmp, ack_injects, is_same_pin, has_pin, Board, is_same, IoapicPart, ioapic_of, with_ioapic, Routing, done, ◌>>◌, Wishes, Outcome, run, of_pin, of_answer, of_other, tell_concerned, end_level, end_tick, acknowledge, acknowledge_tick, board_by, of_marked, of_resend, of_level, of_tick, of_acknowledge_each, ◌⊎◌, IoEntry as Entry, hold_cmp_total, is_same-some, run-bind, acknowledge_tells, pin_freed, part_freed, freed, part_cleared, cleared, of_acknowledge_now, of_acknowledges_now}
 use Rattle.board_step.proofs.ReachPins.{irr_cleared, acked_entry, raise_alike, MarksResamplers, told_holds, level_ends, acknowledge_is_now}
 use Rattle.board_step.proofs.ReachApart.{SamePin, same_level, IsOther, IsOtherOf, IsOtherPin, acknowledge_leaves}
 
@@ -47,13 +35,13 @@ module _ (routing : Routing) (shape : Shape) where
 
   -- the acknowledged pin, if it is one of the I/O APIC, is the same
   abbrev SameAcked : Pin → IoapicPart → IoapicPart → Type 0
-  SameAcked (pins.Pic p) part other = Unit {0}
-  SameAcked (pins.Ioapic at) part other = SamePin at part other
+  SameAcked (Pin.Pic p) part other = Unit {0}
+  SameAcked (Pin.Ioapic at) part other = SamePin at part other
 
   part_cleared_same : (pin : ℕ) (part other : IoapicPart) (acked : Pin) → SameAcked acked part other → SamePin pin part other → SamePin pin (part_cleared part acked) (part_cleared other acked)
-  part_cleared_same pin part other (pins.Pic p) own h = h
-  part_cleared_same pin part other (pins.Ioapic at) own h =
-      subst (λ (e : Entry). SamePin pin (part_cleared part (pins.Ioapic at)) (if e.level then with_ioapic other (pin_acked (ioapic_of other) at) else other)) (sym own.entry)
+  part_cleared_same pin part other (Pin.Pic p) own h = h
+  part_cleared_same pin part other (Pin.Ioapic at) own h =
+      subst (λ (e : Entry). SamePin pin (part_cleared part (Pin.Ioapic at)) (if e.level then with_ioapic other (pin_acked (ioapic_of other) at) else other)) (sym own.entry)
       (by_test (entry_at (ioapic_of part) at).level)
     where
       by_test : (t : Bool) → SamePin pin (if t then with_ioapic part (pin_acked (ioapic_of part) at) else part) (if t then with_ioapic other (pin_acked (ioapic_of other) at) else other)
@@ -64,8 +52,8 @@ module _ (routing : Routing) (shape : Shape) where
       by_test false = h
 
   level_same : (b c : Board) (acked : Pin) (q : Part) → SameAcked acked b.ioapic c.ioapic → of_level routing shape c acked q ≡ of_level routing shape b acked q
-  level_same b c (pins.Pic p) q h = refl
-  level_same b c (pins.Ioapic at) q h = λ i.
+  level_same b c (Pin.Pic p) q h = refl
+  level_same b c (Pin.Ioapic at) q h = λ i.
       is_same Ioapic q || ((h.entry i).level && of_resend routing shape (resend_by (same_level h i) (same_acked (ioapic_of b.ioapic) (ioapic_of c.ioapic) at h.entry i)) q)
 
   tick_same : (b c : Board) (gsi : Option ℕ) (q : Part) → (gsi ≡ Some shape.tick → c.tick ≡ b.tick)
@@ -89,7 +77,7 @@ module _ (routing : Routing) (shape : Shape) where
 
   -- the pins of the I/O APIC that the row of a pin reads: its own, and that on which the next tick comes
   abbrev Reads : Pin → ℕ → Type 0
-  Reads acked t = (acked ≡ pins.Ioapic t) ⊎ ((routing.gsi_of acked ≡ Some shape.tick) × ((routing.targets shape.tick).ioapic ≡ Some t))
+  Reads acked t = (acked ≡ Pin.Ioapic t) ⊎ ((routing.gsi_of acked ≡ Some shape.tick) × ((routing.targets shape.tick).ioapic ≡ Some t))
 
   now_same : (b c : Board) (acked : Pin) (q : Part) → c.registry ≡ b.registry → (routing.gsi_of acked ≡ Some shape.tick → c.tick ≡ b.tick) → ((t : ℕ) → Reads acked t → SamePin t b.ioapic c.ioapic)
       → of_acknowledge_now routing shape c acked q ≡ of_acknowledge_now routing shape b acked q
@@ -102,9 +90,9 @@ module _ (routing : Routing) (shape : Shape) where
       gsi : Option ℕ
       gsi = routing.gsi_of acked
 
-      own : (pin : Pin) → ((t : ℕ) → pin ≡ pins.Ioapic t → SamePin t b.ioapic c.ioapic) → SameAcked pin (part_freed routing shape b gsi) (part_freed routing shape c gsi)
-      own (pins.Pic p) same = tt
-      own (pins.Ioapic at) same = part_freed_same at b c gsi registry (same at refl)
+      own : (pin : Pin) → ((t : ℕ) → pin ≡ Pin.Ioapic t → SamePin t b.ioapic c.ioapic) → SameAcked pin (part_freed routing shape b gsi) (part_freed routing shape c gsi)
+      own (Pin.Pic p) same = tt
+      own (Pin.Ioapic at) same = part_freed_same at b c gsi registry (same at refl)
 
   -- ---- pins of different GSIs
 
@@ -131,15 +119,15 @@ module _ (routing : Routing) (shape : Shape) where
 
   module _ (tells : TellsPins) where
     -- the GSI that goes to a pin of the I/O APIC is its GSI
-    owner_is : (t gsi : ℕ) → (routing.targets gsi).ioapic ≡ Some t → routing.gsi_of (pins.Ioapic t) ≡ Some gsi
-    owner_is t gsi has = tells.only (pins.Ioapic t) gsi (ap (λ o. is_same_pin o (Some t)) has ∙ is_same-some t)
+    owner_is : (t gsi : ℕ) → (routing.targets gsi).ioapic ≡ Some t → routing.gsi_of (Pin.Ioapic t) ≡ Some gsi
+    owner_is t gsi has = tells.only (Pin.Ioapic t) gsi (ap (λ o. is_same_pin o (Some t)) has ∙ is_same-some t)
 
     module _ (acked later : Pin) (apart : Apart acked later) (t : ℕ) (reads : Reads later t) where
       other_pin : (pin : Pin) → acked ≡ pin → IsOtherPin t routing shape pin
-      other_pin (pins.Pic p) is = tt
-      other_pin (pins.Ioapic at) is = differs at t (λ same. clash (is ∙ ap pins.Ioapic same) reads)
+      other_pin (Pin.Pic p) is = tt
+      other_pin (Pin.Ioapic at) is = differs at t (λ same. clash (is ∙ ap Pin.Ioapic same) reads)
         where
-          clash : acked ≡ pins.Ioapic t → Reads later t → ⊥
+          clash : acked ≡ Pin.Ioapic t → Reads later t → ⊥
           clash e (inl own) = apart.differ (e ∙ sym own)
           clash e (inr (ticks, has)) = apart.gsis shape.tick (ap routing.gsi_of e ∙ owner_is t shape.tick has) ticks
 
@@ -175,8 +163,8 @@ module _ (routing : Routing) (shape : Shape) where
       by_gsi (Some g) never c ws = ap (λ t. (run (if t then acknowledge_tick routing shape else done tt) c ws).board.tick) (differs g shape.tick (λ same. never (ap Some same)))
 
       level_tick : (pin : Pin) (c : Board) (ws : Wishes) → (run (end_level shape.cpus pin) c ws).board.tick ≡ c.tick
-      level_tick (pins.Pic p) c ws = refl
-      level_tick (pins.Ioapic at) c ws = (level_ends shape.cpus at c ws).tick
+      level_tick (Pin.Pic p) c ws = refl
+      level_tick (Pin.Ioapic at) c ws = (level_ends shape.cpus at c ws).tick
 
   -- ---- one after another
 

@@ -1,20 +1,5 @@
 -- What the acknowledge of one pin reaches is told by the board before it.
-use Rattle.board_step.proofs.Basics.set
-use Rattle.board_step.proofs.Basics.{◌≡◌, ℕ, zero, suc, Bool, true, false, not, ◌&&◌, ◌||◌, nat_eq, if◌then◌else◌, List, [], ◌∷◌, inl, inr, refl, sym, ap, ◌∙◌, subst, true≢false, arith, Some, None, slice_index_or, Option, unsigned_Decides, nat_tests}
-use Rattle.board_step.proofs.Types.pins
-use Rattle.board_step.proofs.Types.raises
-use Rattle.board_step.proofs.Types.{signalled_all, Event, Pin, Message, MsiWord, Resample, Part, Registry, Counters, Tick, Pic, Ioapic, Lapic, Shape, IoapicChip}
-use Rattle.board_step.proofs.Chips.{message_of, entry_at, raise_of, resend_of, pin_acked, pin_accepted, has_resampler, watched, watch_events, resampled, resample_events, ack_injects, is_taken}
-use Rattle.board_step.proofs.Plans.{Board, part_of, with_part, is_same, IoapicPart, ioapic_of, with_ioapic, Routing, About, resent, Plan, done, ◌>>◌, Wishes, Outcome, run, TargetAnswer}
-use Rattle.board_step.proofs.Calls.{reached_by, send, is_accepted, accept_pin, let_go, is_of_one, of_message, of_pin, of_answer, of_other, say_each, signal_each, resample, notify, resample_and_notify, tell_concerned, resend, clear_and_resend, end_level, entry_ended, board_by, of_marked, of_resend, of_level, of_tick, of_acknowledge}
-use Rattle.std.proofs.Common.{slice_set}
-use Rattle.std.specs.Prelude.{◌⊎◌}
-use Rattle.ioapic_82093aa.specs.declared.entry.Entry.{Entry}
-use Rattle.ioapic_82093aa.specs.Entries.{entry_at_power_on}
-use Rattle.board_model.proofs.Sequence.{run-bind}
-use Rattle.board_model.proofs.Staying.{unreached_stays}
-use Rattle.board_raise.proofs.Reaching.{sends_reach}
-use Rattle.board_step.specs.ReachNow.{pin_freed, part_freed, freed, part_cleared, cleared, of_acknowledge_now}
+use Rattle.board_step.proofs.Basics.{◌≡◌, ℕ, zero, suc, Bool, true, false, not, ◌&&◌, ◌||◌, nat_eq, if◌then◌else◌, List, [], ◌∷◌, inl, inr, refl, sym, ap, ◌∙◌, subst, true≢false, arith, Some, None, slice_index_or, Option, unsigned_Decides, nat_tests, signalled_all, Event, Pin, Message, MsiWord, Resample, Part, Registry, Counters, Tick, Pic, Ioapic, Lapic, Shape, IoapicChip, message_of, entry_at, raise_of, resend_of, pin_acked, pin_accepted, has_resampler, watched, watch_events, resampled, resample_events, ack_injects, is_taken, Board, part_of, with_part, is_same, IoapicPart, ioapic_of, with_ioapic, Routing, About, resent, Plan, done, ◌>>◌, Wishes, Outcome, run, TargetAnswer, reached_by, send, is_accepted, accept_pin, let_go, is_of_one, of_message, of_pin, of_answer, of_other, say_each, signal_each, resample, notify, resample_and_notify, tell_concerned, resend, clear_and_resend, end_level, entry_ended, board_by, of_marked, of_resend, of_level, of_tick, of_acknowledge, slice_set, ◌⊎◌, IoEntry as Entry, entry_at_power_on, run-bind, unreached_stays, sends_reach, pin_freed, part_freed, freed, part_cleared, cleared, of_acknowledge_now, Raise, contains}
 
 -- ---- entries that are written
 
@@ -178,7 +163,7 @@ module _ (cpus pin : ℕ) (b : Board) (ws : Wishes) where
         ioapic = inl (sent_ioapic cpus message (resent pin) acked_board ws);
       }
 
-  pub level_ends : Ends b (run (end_level cpus (pins.Ioapic pin)) b ws).board pin (entry_ended b.ioapic pin)
+  pub level_ends : Ends b (run (end_level cpus (Pin.Ioapic pin)) b ws).board pin (entry_ended b.ioapic pin)
   level_ends = by_level (entry_at (ioapic_of b.ioapic) pin).level refl
     where
       by_level : (t : Bool) → (entry_at (ioapic_of b.ioapic) pin).level ≡ t
@@ -202,8 +187,8 @@ swallowed : (i m g t j p a c : Bool) → (a ≡ true → m ≡ true) → (c ≡ 
 swallowed i m g t j p a c h1 h2 = grind arith
 
 -- what a pin answers is told by its entry and its level
-pub raise_alike : (io other : IoapicChip) (pin : ℕ) → entry_at io pin ≡ entry_at other pin → set.contains io.high pin ≡ set.contains other.high pin → raise_of io pin ≡ raise_of other pin
-raise_alike io other pin entries levels = λ i. if (entries i).masked then raises.Masked else if (if (entries i).level then (entries i).remote_irr else levels i) then raises.Stood else raises.Send (message_of (entries i))
+pub raise_alike : (io other : IoapicChip) (pin : ℕ) → entry_at io pin ≡ entry_at other pin → contains io.high pin ≡ contains other.high pin → raise_of io pin ≡ raise_of other pin
+raise_alike io other pin entries levels = λ i. if (entries i).masked then Raise.Masked else if (if (entries i).level then (entries i).remote_irr else levels i) then Raise.Stood else Raise.Send (message_of (entries i))
 
 -- ---- one pin
 
@@ -266,23 +251,23 @@ module _ (routing : Routing) (shape : Shape) where
 
     -- what was sent again leaves nothing that the next tick sends besides
     sent_again_same : (c : Board) → c.tick ≡ b.tick → SentAgain b.ioapic c.ioapic pin
-        → (of_level routing shape b (pins.Ioapic pin) q || of_tick routing shape c gsi q) ≡ (of_level routing shape b (pins.Ioapic pin) q || of_tick routing shape (cleared b (pins.Ioapic pin)) gsi q)
+        → (of_level routing shape b (Pin.Ioapic pin) q || of_tick routing shape c gsi q) ≡ (of_level routing shape b (Pin.Ioapic pin) q || of_tick routing shape (cleared b (Pin.Ioapic pin)) gsi q)
     sent_again_same c ticks s =
         (λ i. level i || tick_by c again gsi q ticks s.ioapic i)
         ∙ ticks_no_more s.message s.again gsi
-        ∙ sym (λ i. level i || tick_by (cleared b (pins.Ioapic pin)) clear gsi q refl (ap (λ t. if t then with_ioapic b.ioapic (pin_acked chip pin) else b.ioapic) s.level) i)
+        ∙ sym (λ i. level i || tick_by (cleared b (Pin.Ioapic pin)) clear gsi q refl (ap (λ t. if t then with_ioapic b.ioapic (pin_acked chip pin) else b.ioapic) s.level) i)
       where
-        level : of_level routing shape b (pins.Ioapic pin) q ≡ (is_same Ioapic q || of_message s.message None shape.cpus q)
+        level : of_level routing shape b (Pin.Ioapic pin) q ≡ (is_same Ioapic q || of_message s.message None shape.cpus q)
         level = λ i. is_same Ioapic q || (s.level i && of_resend routing shape (s.again i) q)
 
   ended_same : (b : Board) (ws : Wishes) (pin : Pin) (gsi : Option ℕ) (q : Part) → (of_level routing shape b pin q || of_tick routing shape (run (end_level shape.cpus pin) b ws).board gsi q)
       ≡ (of_level routing shape b pin q || of_tick routing shape (cleared b pin) gsi q)
-  ended_same b ws (pins.Pic pin) gsi q = ap (λ r. of_level routing shape b (pins.Pic pin) q || r) (tick_by b (cleared b (pins.Pic pin)) gsi q refl refl)
-  ended_same b ws (pins.Ioapic pin) gsi q =
+  ended_same b ws (Pin.Pic pin) gsi q = ap (λ r. of_level routing shape b (Pin.Pic pin) q || r) (tick_by b (cleared b (Pin.Pic pin)) gsi q refl refl)
+  ended_same b ws (Pin.Ioapic pin) gsi q =
       let ends = level_ends shape.cpus pin b ws in
       elim ends.ioapic [
-        | inl same ↦ ap (λ r. of_level routing shape b (pins.Ioapic pin) q || r) (tick_by (run (end_level shape.cpus (pins.Ioapic pin)) b ws).board (cleared b (pins.Ioapic pin)) gsi q ends.tick same)
-        | inr s ↦ sent_again_same b pin gsi q (run (end_level shape.cpus (pins.Ioapic pin)) b ws).board ends.tick s
+        | inl same ↦ ap (λ r. of_level routing shape b (Pin.Ioapic pin) q || r) (tick_by (run (end_level shape.cpus (Pin.Ioapic pin)) b ws).board (cleared b (Pin.Ioapic pin)) gsi q ends.tick same)
+        | inr s ↦ sent_again_same b pin gsi q (run (end_level shape.cpus (Pin.Ioapic pin)) b ws).board ends.tick s
       ]
 
   -- the acknowledge of one pin reaches what the board before it tells

@@ -1,20 +1,6 @@
 -- What a call reaches is told by the board before it.
-use Rattle.board_step.proofs.Basics.{◌≡◌, ℕ, ◌+◌, Bool, true, false, cond, not, ◌&&◌, ◌||◌, nat_eq, ◌-◌, if◌then◌else◌, List, [], ◌∷◌, ◌++◌, map, filter, refl, sym, ap, ◌∙◌, subst, true≢false, arith, Some, None, is_some, list_all, unsigned_Decides, Option, nat_tests}
-use Rattle.board_step.proofs.Types.calls
-use Rattle.board_step.proofs.Types.spaces
-use Rattle.board_step.proofs.Types.pins
-use Rattle.board_step.proofs.Types.effects
-use Rattle.board_step.proofs.Types.{greatest_vector, first_of, Call, Caller, Space, Pin, Part, Registry, Pic, Ioapic, Lapic, Shape, Pair, Slave, IoapicChip, Irqfd, TriggerWord}
-use Rattle.board_step.proofs.Chips.{top_of, level_acknowledged, is_port, has_output, slave_pin, master_top, acked_pins, slave_cycle, cycle_by, cycle, pair_write_to, pair_read_from, has_vector, write_to, LocalApic, store_effect, named_row, has_watch, rung_by, Table, is_same_pin, targets_of, has_pin, gsi_of}
-use Rattle.board_step.proofs.Plans.{Board, part_of, is_same, pair_of, IoapicPart, ioapic_of, IsSoundTable, IsSoundRegistry, RegistryPart, Routing, routing_of_registry}
-use Rattle.board_step.proofs.Calls.{of_fall, of_acknowledge_each, is_ioapic_address, is_lapic_address, range_reasons, all_pins, pins_with, pic_pin, cycle_pins, hears_pair, number_of}
-use Rattle.lapic.specs.declared.outcome.Effect.{Effect}
-use Rattle.route_table.proofs.Sound.{sound_of}
-use Rattle.route_table.proofs.Given.{gsi_of_pin}
+use Rattle.board_step.proofs.Basics.{◌≡◌, ℕ, ◌+◌, Bool, true, false, cond, not, ◌&&◌, ◌||◌, nat_eq, ◌-◌, if◌then◌else◌, List, [], ◌∷◌, ◌++◌, map, filter, refl, sym, ap, ◌∙◌, subst, true≢false, arith, Some, None, is_some, list_all, unsigned_Decides, Option, nat_tests, greatest_vector, first_of, Call, Caller, Space, Pin, Part, Registry, Pic, Ioapic, Lapic, Shape, Pair, Slave, IoapicChip, Irqfd, TriggerWord, top_of, level_acknowledged, is_port, has_output, slave_pin, master_top, acked_pins, slave_cycle, cycle_by, cycle, pair_write_to, pair_read_from, has_vector, write_to, LocalApic, store_effect, named_row, has_watch, rung_by, Table, is_same_pin, targets_of, has_pin, gsi_of, Board, part_of, is_same, pair_of, IoapicPart, ioapic_of, IsSoundTable, IsSoundRegistry, RegistryPart, Routing, routing_of_registry, of_fall, of_acknowledge_each, is_ioapic_address, is_lapic_address, range_reasons, all_pins, pins_with, pic_pin, cycle_pins, hears_pair, number_of, LapicEffect as Effect, sound_of, gsi_of_pin, reach, of_acknowledges_now, reach_now, ReachIsNow, LapicEffect}
 use Rattle.board_step.specs.Reach as table
-use Rattle.board_step.specs.Reach.{reach}
-use Rattle.board_step.specs.ReachNow.{of_acknowledges_now, reach_now}
-use Rattle.board_step.specs.Laws.{ReachIsNow}
 use Rattle.board_step.proofs.CountingPins.{gsi_has_pin}
 use Rattle.board_step.proofs.ReachPins.{MarksResamplers}
 use Rattle.board_step.proofs.ReachLists.{TellsPins, Apart, EachApart, AllApart, acknowledges_are_now}
@@ -41,22 +27,22 @@ module _ (routing : Routing) (shape : Shape) (tells : TellsPins routing shape) w
   both_ways : {P : Type 0} (a c : ℕ) → nat_eq a c ≡ false → nat_eq a c ≡ true → P
   both_ways a c other same = absurd (true≢false (sym same ∙ other))
 
-  ioapic_apart : (a c : ℕ) → nat_eq a c ≡ false → Apart routing shape (pins.Ioapic a) (pins.Ioapic c)
+  ioapic_apart : (a c : ℕ) → nat_eq a c ≡ false → Apart routing shape (Pin.Ioapic a) (Pin.Ioapic c)
   ioapic_apart a c other = record {
     differ = λ same. both_ways a c other ((unsigned_Decides a c).1 (number a c same));
-    gsis = λ gsi h k. both_ways a c other (one_number (routing.targets gsi).ioapic a c (tells.own (pins.Ioapic a) gsi h) (tells.own (pins.Ioapic c) gsi k));
+    gsis = λ gsi h k. both_ways a c other (one_number (routing.targets gsi).ioapic a c (tells.own (Pin.Ioapic a) gsi h) (tells.own (Pin.Ioapic c) gsi k));
   }
     where
-      number : (a c : ℕ) → pins.Ioapic a ≡ pins.Ioapic c → a ≡ c
+      number : (a c : ℕ) → Pin.Ioapic a ≡ Pin.Ioapic c → a ≡ c
       number a c e = cc
 
-  pic_apart : (a c : ℕ) → nat_eq a c ≡ false → Apart routing shape (pins.Pic a) (pins.Pic c)
+  pic_apart : (a c : ℕ) → nat_eq a c ≡ false → Apart routing shape (Pin.Pic a) (Pin.Pic c)
   pic_apart a c other = record {
     differ = λ same. both_ways a c other ((unsigned_Decides a c).1 (number a c same));
-    gsis = λ gsi h k. both_ways a c other (one_number (routing.targets gsi).pic a c (tells.own (pins.Pic a) gsi h) (tells.own (pins.Pic c) gsi k));
+    gsis = λ gsi h k. both_ways a c other (one_number (routing.targets gsi).pic a c (tells.own (Pin.Pic a) gsi h) (tells.own (Pin.Pic c) gsi k));
   }
     where
-      number : (a c : ℕ) → pins.Pic a ≡ pins.Pic c → a ≡ c
+      number : (a c : ℕ) → Pin.Pic a ≡ Pin.Pic c → a ≡ c
       number a c e = cc
 
   -- ---- the pins of the I/O APIC with one vector
@@ -78,20 +64,20 @@ module _ (routing : Routing) (shape : Shape) (tells : TellsPins routing shape) w
   turned t h1 = grind arith
 
   module _ (f : ℕ → Bool) where
-    each_apart : (a : ℕ) (ns : List ℕ) → are_others a ns ≡ true → EachApart routing shape (pins.Ioapic a) (map pins.Ioapic (filter f ns))
+    each_apart : (a : ℕ) (ns : List ℕ) → are_others a ns ≡ true → EachApart routing shape (Pin.Ioapic a) (map Pin.Ioapic (filter f ns))
     each_apart a [] h = tt
     each_apart a (n ∷ ns) h =
         let rest = each_apart a ns (second_of_both (not (nat_eq a n)) (are_others a ns) h) in
-        elim (f n) as (λ t. EachApart routing shape (pins.Ioapic a) (map pins.Ioapic (cond t (n ∷ filter f ns) (filter f ns)))) [
+        elim (f n) as (λ t. EachApart routing shape (Pin.Ioapic a) (map Pin.Ioapic (cond t (n ∷ filter f ns) (filter f ns)))) [
           | true ↦ (ioapic_apart a n (turned (nat_eq a n) (first_of_both (not (nat_eq a n)) (are_others a ns) h)), rest)
           | false ↦ rest
         ]
 
-    all_apart : (ns : List ℕ) → all_differ ns ≡ true → AllApart routing shape (map pins.Ioapic (filter f ns))
+    all_apart : (ns : List ℕ) → all_differ ns ≡ true → AllApart routing shape (map Pin.Ioapic (filter f ns))
     all_apart [] h = tt
     all_apart (n ∷ ns) h =
         let rest = all_apart ns (second_of_both (are_others n ns) (all_differ ns) h) in
-        elim (f n) as (λ t. AllApart routing shape (map pins.Ioapic (cond t (n ∷ filter f ns) (filter f ns)))) [
+        elim (f n) as (λ t. AllApart routing shape (map Pin.Ioapic (cond t (n ∷ filter f ns) (filter f ns)))) [
           | true ↦ (each_apart n ns (first_of_both (are_others n ns) (all_differ ns) h), rest)
           | false ↦ rest
         ]
@@ -166,16 +152,16 @@ module _ (routing : Routing) (shape : Shape) (tells : TellsPins routing shape) (
   written_now part after pin = grind arith
 
   effect_now : (n : ℕ) (effect : Effect) → table.of_effect of_acknowledge_each routing shape b n effect q ≡ table.of_effect of_acknowledges_now routing shape b n effect q
-  effect_now n effects.Plain = refl
-  effect_now n (effects.Ended vector) = end_now vector
-  effect_now n (effects.Send ipi) = refl
+  effect_now n LapicEffect.Plain = refl
+  effect_now n (LapicEffect.Ended vector) = end_now vector
+  effect_now n (LapicEffect.Send ipi) = refl
 
   store_now : (n address len value : ℕ) → table.of_store of_acknowledge_each routing shape b n address len value q ≡ table.of_store of_acknowledges_now routing shape b n address len value q
   store_now n address len value =
       let written = write_to (ioapic_of b.ioapic) (address - 0xfec00000) value in
       λ i. if is_ioapic_address address then is_same Ioapic q || (nat_eq len 4 && written_now b.ioapic written.after written.pin i)
       else if is_lapic_address address then is_same (Lapic n) q || (nat_eq len 4 && effect_now n (store_effect (part_of b (Lapic n)) (address - 0xfee00000) value) i)
-      else ring_now spaces.Memory address len value i
+      else ring_now Space.Memory address len value i
 
   ack_now : (n : ℕ) (apic : LocalApic) → table.of_ack of_acknowledge_each routing shape b n apic q ≡ table.of_ack of_acknowledges_now routing shape b n apic q
   ack_now n apic = ap (λ t. is_same (Lapic n) q || ((not apic.nmi && hears_pair n apic) && (is_same Pic q || (has_output (pair_of b.pic) && t)))) cycle_now
@@ -184,15 +170,15 @@ module _ (routing : Routing) (shape : Shape) (tells : TellsPins routing shape) (
   release_now rows trigger gsi row = grind arith
 
   call_now : (n : ℕ) (call : Call) → table.of_call of_acknowledge_each routing shape b n call q ≡ table.of_call of_acknowledges_now routing shape b n call q
-  call_now n (calls.Write counter count) = write_now (routing.trigger counter) count
-  call_now n (calls.Deassign trigger gsi) = ap (λ t. is_same Registry q || (t && of_fall (routing.targets gsi) q)) (release_now b.registry.irqfds trigger gsi (named_row b.registry.irqfds trigger gsi))
-  call_now n (calls.PortOut port len value) =
-      λ i. if is_port port then pair_now len (pair_write_to (pair_of b.pic) port value).pin i else ring_now spaces.Port port len value i
-  call_now n (calls.PortIn port len) = λ i. if is_port port then pair_now len (pair_read_from (pair_of b.pic) port).pin i else false
-  call_now n (calls.Store address len value) = store_now n address len value
-  call_now n calls.Ack = ack_now n (part_of b (Lapic n))
-  call_now n calls.Inta = ap (λ t. is_same Pic q || t) cycle_now
-  call_now n calls.Eoi = ap (λ t. is_same (Lapic n) q || t) (end_now (greatest_vector (part_of b (Lapic n)).isr))
+  call_now n (Call.Write counter count) = write_now (routing.trigger counter) count
+  call_now n (Call.Deassign trigger gsi) = ap (λ t. is_same Registry q || (t && of_fall (routing.targets gsi) q)) (release_now b.registry.irqfds trigger gsi (named_row b.registry.irqfds trigger gsi))
+  call_now n (Call.PortOut port len value) =
+      λ i. if is_port port then pair_now len (pair_write_to (pair_of b.pic) port value).pin i else ring_now Space.Port port len value i
+  call_now n (Call.PortIn port len) = λ i. if is_port port then pair_now len (pair_read_from (pair_of b.pic) port).pin i else false
+  call_now n (Call.Store address len value) = store_now n address len value
+  call_now n Call.Ack = ack_now n (part_of b (Lapic n))
+  call_now n Call.Inta = ap (λ t. is_same Pic q || t) cycle_now
+  call_now n Call.Eoi = ap (λ t. is_same (Lapic n) q || t) (end_now (greatest_vector (part_of b (Lapic n)).isr))
   call_now n _ = refl
 
 -- where the registry is sound

@@ -1,14 +1,5 @@
 -- A call that is refused, and no other, answers its refusal.
-use Rattle.board_step.proofs.Basics.{◌≡◌, ℕ, Bool, true, false, not, ◌||◌, if◌then◌else◌, List, [], ◌∷◌, ◌++◌, refl, sym, ap, ◌∙◌, true≢false, option_map, Some, None, Option}
-use Rattle.board_step.proofs.Types.calls
-use Rattle.board_step.proofs.Types.{Reason, first_of, Call, Caller, Entry, Refusal, Reply, Refused, Done, Irqfd}
-use Rattle.board_step.proofs.Chips.{of_trigger}
-use Rattle.board_step.proofs.Plans.{Board, trigger_of, routing_of_registry, Plan, Wishes, Outcome, run}
-use Rattle.board_step.proofs.Calls.{range_reasons, write_reasons, unless_refused, write, number_of, plan_in_range}
-use Rattle.std.proofs.Common.{is_some}
-use Rattle.board_raise.proofs.Manner.{Manner, some_refusal, Keeps, accepts}
-use Rattle.board_step.specs.Step.{later_reasons, refusal_of, plan_on, outcome_of, Step}
-use Rattle.board_step.specs.Laws.{RefusesRightly}
+use Rattle.board_step.proofs.Basics.{◌≡◌, ℕ, Bool, true, false, not, ◌||◌, if◌then◌else◌, List, [], ◌∷◌, ◌++◌, refl, sym, ap, ◌∙◌, true≢false, option_map, Some, None, Option, Reason, first_of, Call, Caller, Entry, Refusal, Reply, Refused, Done, Irqfd, of_trigger, Board, trigger_of, routing_of_registry, Plan, Wishes, Outcome, run, range_reasons, write_reasons, unless_refused, write, number_of, plan_in_range, is_some, Manner, some_refusal, Keeps, accepts, later_reasons, refusal_on as refusal_of, plan_on, outcome_of, Step, RefusesRightly}
 use Rattle.board_step.proofs.CallManner.{replies_in, writes_in, refuses_in, ends, write_trigger_keeps, assigned_keeps, in_range_keeps, or_true}
 
 -- ---- reasons one after another
@@ -49,12 +40,12 @@ module _ (b : Board) (caller : Caller) (ws : Wishes) where
 
   -- a call in range that is refused
   later_refused : (call : Call) (refusal : Refusal) → first_of (later_reasons b call) ≡ Some refusal → in_range call ≡ refused_outcome b ws refusal
-  later_refused (calls.Write counter count) refusal is = write_refused counter count refusal (of_trigger b.registry.irqfds counter) is
-  later_refused (calls.Assign trigger gsi resample) refusal is = is_refused _ _ refusal is
-  later_refused (calls.Attach space address len counter want) refusal is = is_refused _ _ refusal is
-  later_refused (calls.Detach space address len counter want) refusal is = is_refused _ _ refusal is
-  later_refused (calls.Watch counter gsi) refusal is = is_refused _ _ refusal is
-  later_refused (calls.Unwatch counter gsi) refusal is = is_refused _ _ refusal is
+  later_refused (Call.Write counter count) refusal is = write_refused counter count refusal (of_trigger b.registry.irqfds counter) is
+  later_refused (Call.Assign trigger gsi resample) refusal is = is_refused _ _ refusal is
+  later_refused (Call.Attach space address len counter want) refusal is = is_refused _ _ refusal is
+  later_refused (Call.Detach space address len counter want) refusal is = is_refused _ _ refusal is
+  later_refused (Call.Watch counter gsi) refusal is = is_refused _ _ refusal is
+  later_refused (Call.Unwatch counter gsi) refusal is = is_refused _ _ refusal is
   later_refused _ refusal is = cc
 
   -- a call that is refused
@@ -87,12 +78,12 @@ module _ (b : Board) (caller : Caller) (ws : Wishes) where
       (in_range_keeps w (routing_of_registry b.registry b.shape.tick) b.shape (number_of caller) call (record { replies = refl; writes = or_true (not (writes_in call)); refuses = ap (λ t. t || false) never }))
 
   later_accepted : (call : Call) → first_of (later_reasons b call) ≡ None → some_refusal (in_range call).log.answers ≡ false
-  later_accepted (calls.Write counter count) is = write_accepted counter count (of_trigger b.registry.irqfds counter) is
-  later_accepted (calls.Assign trigger gsi resample) is = is_accepted (careful false) _ _ is refl (assigned_keeps (careful false) (routing_of_registry b.registry b.shape.tick) b.shape refl refl b.registry b.counters trigger gsi resample)
-  later_accepted (calls.Attach space address len counter want) is = is_accepted (careful false) _ _ is refl (refl, ends (careful false) Done refl refl)
-  later_accepted (calls.Detach space address len counter want) is = is_accepted (careful false) _ _ is refl (refl, ends (careful false) Done refl refl)
-  later_accepted (calls.Watch counter gsi) is = is_accepted (careful false) _ _ is refl (refl, ends (careful false) Done refl refl)
-  later_accepted (calls.Unwatch counter gsi) is = is_accepted (careful false) _ _ is refl (refl, ends (careful false) Done refl refl)
+  later_accepted (Call.Write counter count) is = write_accepted counter count (of_trigger b.registry.irqfds counter) is
+  later_accepted (Call.Assign trigger gsi resample) is = is_accepted (careful false) _ _ is refl (assigned_keeps (careful false) (routing_of_registry b.registry b.shape.tick) b.shape refl refl b.registry b.counters trigger gsi resample)
+  later_accepted (Call.Attach space address len counter want) is = is_accepted (careful false) _ _ is refl (refl, ends (careful false) Done refl refl)
+  later_accepted (Call.Detach space address len counter want) is = is_accepted (careful false) _ _ is refl (refl, ends (careful false) Done refl refl)
+  later_accepted (Call.Watch counter gsi) is = is_accepted (careful false) _ _ is refl (refl, ends (careful false) Done refl refl)
+  later_accepted (Call.Unwatch counter gsi) is = is_accepted (careful false) _ _ is refl (refl, ends (careful false) Done refl refl)
   later_accepted call is = never_refused call refl
 
   -- a call that is not refused answers no refusal

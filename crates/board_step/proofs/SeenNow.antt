@@ -1,15 +1,6 @@
 -- What is read of the parts of a board.
-use Rattle.board_step.proofs.Basics.{◌≡◌, ℕ, zero, suc, ◌<◌, Bool, true, false, cond, map, filter, ◌&&◌, ◌||◌, nat_eq, nat_lt, if◌then◌else◌, List, [], ◌∷◌, ◌++◌, refl, sym, ap, ◌∙◌, arith, list_any, unsigned_Decides, nat_tests}
-use Rattle.board_step.proofs.Types.pins
-use Rattle.board_step.proofs.Types.{Part, Registry, Counters, Tick, Pic, Ioapic, Lapic}
-use Rattle.board_step.proofs.Chips.{has_vector}
-use Rattle.board_step.proofs.Plans.{is_same}
-use Rattle.board_step.proofs.Calls.{numbers_below, only, is_of_one, all_pins, pins_with}
-use Rattle.board_model.specs.Chips.{ioapic_of as chip_of}
-use Rattle.board_raise.specs.InHand.{ioapic_of}
-use Rattle.board_step.specs.ReachNow.{of_acknowledge_now, of_acknowledges_now}
+use Rattle.board_step.proofs.Basics.{◌≡◌, ℕ, zero, suc, ◌<◌, Bool, true, false, cond, map, filter, ◌&&◌, ◌||◌, nat_eq, nat_lt, if◌then◌else◌, List, [], ◌∷◌, ◌++◌, refl, sym, ap, ◌∙◌, arith, list_any, unsigned_Decides, nat_tests, Part, Registry, Counters, Tick, Pic, Ioapic, Lapic, has_vector, is_same, numbers_below, only, is_of_one, all_pins, pins_with, ioapic_of as chip_of, ioapic_at_hand as ioapic_of, of_acknowledge_now, of_acknowledges_now, board_seen, routing_seen, is_ended, Pin}
 use Rattle.board_step.specs.declared.seen.Seen.{Seen}
-use Rattle.board_step.specs.Seen.{board_seen, routing_seen, is_ended}
 
 -- ---- the local APICs that a message looks at
 
@@ -105,7 +96,7 @@ module _ (s : Seen) (vector : ℕ) (q : Part) where
 
   vector_is : rows ≡ any_below (is_ended s vector q) 24
   unfolding all_pins
-  vector_is = any_kept (λ pin. of_acknowledge_now (routing_seen s) s.shape.now (board_seen s) pin q) pins.Ioapic (λ pin. has_vector (chip_of (ioapic_of s.ioapic.now)) pin vector) all_pins
+  vector_is = any_kept (λ pin. of_acknowledge_now (routing_seen s) s.shape.now (board_seen s) pin q) Pin.Ioapic (λ pin. has_vector (chip_of (ioapic_of s.ioapic.now)) pin vector) all_pins
 
   pub vector_found : (pin : ℕ) → pin < 24 → is_ended s vector q pin ≡ true → true ≡ rows
   vector_found pin below here = sym (vector_is ∙ any_found (is_ended s vector q) 24 pin below here)

@@ -1,18 +1,8 @@
 -- The board of the parts that are lent, and the counts of a board, which no reach depends on.
-use Rattle.board_step.proofs.Basics.{◌≡◌, ℕ, ◌≤◌, ◌^◌, true, false, true≢false, ◌||◌, List, [], length, arith, refl, sym, ap, ◌∙◌, Some, None, is_some, IfSome, AllPairs, unwrap_or, Option}
-use Rattle.board_step.proofs.Types.{Call, Caller, Part, Registry, Lapic, Irqfd, TickState}
-use Rattle.board_step.proofs.Chips.{has_trigger, in_mode}
-use Rattle.board_step.proofs.Plans.{RegistryPart, Board, part_of, with_part, is_same, Plan, done, look, put, tell, answer, choose, Wishes, next_wish, later_wishes, reaches}
-use Rattle.board_step.proofs.Calls.{registry_of, RegistrationsFit}
-use Rattle.std.specs.Prelude.{option_map}
+use Rattle.board_step.proofs.Basics.{◌≡◌, ℕ, ◌≤◌, ◌^◌, true, false, true≢false, ◌||◌, List, [], length, arith, refl, sym, ap, ◌∙◌, Some, None, is_some, IfSome, AllPairs, unwrap_or, Option, Call, Caller, Part, Registry, Lapic, Irqfd, TickState, has_trigger, in_mode, RegistryPart, Board, part_of, with_part, is_same, Plan, done, look, put, tell, answer, choose, Wishes, next_wish, later_wishes, reaches, registry_of, RegistrationsFit, option_map, plan_on, reach, opening_registry, IsKept, SeenFits, PartsFit}
 use Rattle.board_raise.specs.declared.parts.Parts as parts
-use Rattle.board_step.specs.Step.{plan_on}
-use Rattle.board_step.specs.Reach.{reach}
-use Rattle.board_step.specs.History.{opening_registry}
 use Rattle.board_step.specs.declared.board.Board.TheInside.{Inside}
-use Rattle.board_step.specs.Owned.{IsKept}
 use Rattle.board_step.specs.declared.seen.Seen.{Seen}
-use Rattle.board_step.specs.Seen.{SeenFits, PartsFit}
 use Rattle.board_step.proofs.WholeParts.{below_is}
 use Rattle.board_step.proofs.ReachCalls.{reach_is_table}
 

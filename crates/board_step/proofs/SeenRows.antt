@@ -1,11 +1,6 @@
 -- What is read of the rows of irqfds.
-use Rattle.board_step.proofs.Basics.{◌≡◌, ℕ, ◌<◌, nat_eq, Bool, true, false, cond, not, ◌&&◌, ◌||◌, if◌then◌else◌, List, [], ◌∷◌, filter, All, refl, sym, ap, ◌∙◌, subst, Some, None, is_some, find, IfSome, AllPairs, list_any, unsigned_Decides, Option, All-head, All-tail}
-use Rattle.board_step.proofs.Types.{first_of, Busy, RoleClash, Irqfd}
-use Rattle.board_step.proofs.Chips.{of_trigger, has_trigger, resamples, has_resampler, is_named, named_row, without_row}
-use Rattle.board_step.proofs.Plans.{RegistryPart}
-use Rattle.board_step.proofs.Calls.{IrqfdFits, is_trigger, is_signalled, resample_clashes, assign_reasons}
+use Rattle.board_step.proofs.Basics.{◌≡◌, ℕ, ◌<◌, nat_eq, Bool, true, false, cond, not, ◌&&◌, ◌||◌, if◌then◌else◌, List, [], ◌∷◌, filter, All, refl, sym, ap, ◌∙◌, subst, Some, None, is_some, find, IfSome, AllPairs, list_any, unsigned_Decides, Option, All-head, All-tail, first_of, Busy, RoleClash, Irqfd, of_trigger, has_trigger, resamples, has_resampler, is_named, named_row, without_row, RegistryPart, IrqfdFits, is_trigger, is_signalled, resample_clashes, assign_reasons, is_trigger_in, is_free, if_of}
 use Rattle.board_step.proofs.SoundRows.{pairs_head, pairs_tail}
-use Rattle.board_step.specs.Seen.{is_trigger_in, is_free, if_of}
 
 pub some_found : (rows : List Irqfd) (c : ℕ) → is_some (of_trigger rows c) ≡ is_trigger_in rows c
 some_found [] c = refl

@@ -1,13 +1,5 @@
 -- The wishes that the events and the reply of a plan show are those of its sendings.
-use Rattle.board_step.proofs.Basics.set
-use Rattle.board_step.proofs.Basics.{◌≡◌, Bool, true, false, ◌++◌, List, [], ◌∷◌, refl, sym, ap, ◌∙◌, true≢false, if◌then◌else◌, append-nil, arith, None, ◌||◌, Option, contains-union, same_set, nat_cmp-IsAntisymmetric, nat_cmp, nat_cmp_total}
-use Rattle.board_step.proofs.Types.{Numbers, Event, Injected, Resent, Ipi, Reply, Signal}
-use Rattle.board_step.proofs.Plans.{Board, part_of, with_part, Sent, nobody, is_empty, TargetAnswer, sets_of, status_sent, Heading, About, injected, resent, ipi, the_reply, Plan, done, look, put, tell, answer, choose, Log, Wishes, next_wish, later_wishes, run, reached, shown_wishes}
-use Rattle.std.specs.FinSet.{len-empty}
-use Rattle.board_model.specs.Run.{told, answered, sending}
-use Rattle.board_model.proofs.Showing.{sets-sent}
-use Rattle.board_raise.proofs.Manner.{Manner, sets_told, sets_replied, shows_there, Keeps}
-use Rattle.board_step.specs.History.{wish_of, wish_shown, wish_replied, wishes_told}
+use Rattle.board_step.proofs.Basics.{◌≡◌, Bool, true, false, ◌++◌, List, [], ◌∷◌, refl, sym, ap, ◌∙◌, true≢false, if◌then◌else◌, append-nil, arith, None, ◌||◌, Option, contains-union, same_set, nat_cmp-IsAntisymmetric, nat_cmp, nat_cmp_total, Numbers, Event, Injected, Resent, Ipi, Reply, Signal, Board, part_of, with_part, Sent, nobody, is_empty, TargetAnswer, sets_of, status_sent, Heading, About, injected, resent, ipi, the_reply, Plan, done, look, put, tell, answer, choose, Log, Wishes, next_wish, later_wishes, run, reached, shown_wishes, len-empty, told, answered, sending, sets-sent, Manner, sets_told, sets_replied, shows_there, Keeps, wish_of, wish_shown, wish_replied, wishes_told, contains, union, empty_of_len, empty}
 
 -- the choices that replies show
 abbrev pub wishes_replied : List Reply → Wishes
@@ -16,7 +8,7 @@ wishes_replied (r ∷ rs) = wish_replied r ++ wishes_replied rs
 
 -- ---- one status
 
-pub empty_is : is_empty set.empty ≡ true
+pub empty_is : is_empty empty ≡ true
 empty_is = grind (len-empty nat_cmp, arith)
 
 none_wished : wish_of nobody ≡ []
@@ -25,17 +17,17 @@ none_wished = ap (λ t. if t then (if t then [] else reached nobody ∷ []) else
 same_twice : (t : Bool) → (t || t) ≡ t
 same_twice t = grind arith
 
-nobody_twice : set.union {R = nat_cmp} set.empty set.empty ≡ set.empty
-nobody_twice = same_set nat_cmp_total nat_cmp-IsAntisymmetric _ _ (λ q. contains-union nat_cmp_total _ _ q ∙ same_twice (set.contains {R = nat_cmp} set.empty q))
+nobody_twice : union {R = nat_cmp} empty empty ≡ empty
+nobody_twice = same_set nat_cmp_total nat_cmp-IsAntisymmetric _ _ (λ q. contains-union nat_cmp_total _ _ q ∙ same_twice (contains {R = nat_cmp} empty q))
 
-pub was_empty : (s : Numbers) → is_empty s ≡ true → s ≡ set.empty
-was_empty s h = set.empty_of_len s (grind (h, arith))
+pub was_empty : (s : Numbers) → is_empty s ≡ true → s ≡ empty
+was_empty s h = empty_of_len s (grind (h, arith))
 
 pub wished : (s : Sent) → is_empty (reached s) ≡ false → wish_of s ≡ reached s ∷ []
 wished s somebody = elim (is_empty s.new) as (λ t. is_empty s.new ≡ t → (if t then (if is_empty s.stood then [] else reached s ∷ []) else reached s ∷ []) ≡ reached s ∷ []) [
   | true ↦ λ no_new. elim (is_empty s.stood) as (λ t. is_empty s.stood ≡ t → (if t then [] else reached s ∷ []) ≡ reached s ∷ []) [
     | true ↦ λ none_stood. absurd (true≢false (
-        sym (ap (λ n. is_empty (set.union n s.stood)) (was_empty s.new no_new) ∙ ap (λ n. is_empty (set.union set.empty n)) (was_empty s.stood none_stood) ∙ ap is_empty nobody_twice ∙ empty_is)
+        sym (ap (λ n. is_empty (union n s.stood)) (was_empty s.new no_new) ∙ ap (λ n. is_empty (union empty n)) (was_empty s.stood none_stood) ∙ ap is_empty nobody_twice ∙ empty_is)
         ∙ somebody))
     | false ↦ λ _. refl
   ] refl

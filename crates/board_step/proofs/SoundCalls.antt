@@ -1,29 +1,12 @@
 -- The writes of the calls that leave the registry keep a sound board's parts.
-use Rattle.board_step.proofs.Basics.{◌≡◌, ℕ, ◌+◌, ◌-◌, ◌%◌, ◌^◌, ◌≤◌, Bool, true, false, nat_eq, nat_lt, if◌then◌else◌, length, None, refl, ◌∙◌, arith, length-set, ap, sym, subst, [], slice_index, IsTrue, Option}
-use Rattle.board_step.proofs.Types.pins
-use Rattle.board_step.proofs.Types.parts
-use Rattle.board_step.proofs.Types.{greatest_vector, Source, Resample, Line, TickSource, Targets, Shape, signalled_all, signalled, Part, Status, TickState, Call}
-use Rattle.board_step.proofs.Chips.{write_to, pin_accepted, pin_acked, LocalApic, giveable_of, given, without_service, store_to, written, taken, accepted, hold, tick_acked, tick_injected, is_ignored, in_mode, has_resampler, resampled, watched}
-use Rattle.board_step.proofs.Plans.{RegistryPart, Routing, routing_of_registry, ioapic_of, with_ioapic, with_pair, TargetAnswer, About, ValueOf, Board, part_of, with_part}
-use Rattle.board_step.proofs.Calls.{source_of, pic_raised, ioapic_raised, pic_let_go, ioapic_let_go, inject_tick, plan_in_range}
-use Rattle.irq_base.specs.declared.message.Source.TheVariants.{Pulse}
-use Rattle.irq_base.specs.declared.refusal.Refusal.TheVariants.{Over}
-use Rattle.ioapic_82093aa.specs.declared.ioapic.Ioapic.{Ioapic}
-use Rattle.ioapic_82093aa.specs.declared.registers.Register.{Register}
+use Rattle.board_step.proofs.Walks.{Walk, Holds, Seen, Signals, MayRaise, walk, KeptBySignals, KeptByCalls, signals_kept, tick_kept, calls_kept, is_plain, plain_holds}
+use Rattle.board_step.proofs.Basics.{◌≡◌, ℕ, ◌+◌, ◌-◌, ◌%◌, ◌^◌, ◌≤◌, Bool, true, false, nat_eq, nat_lt, if◌then◌else◌, length, None, refl, ◌∙◌, arith, length-set, ap, sym, subst, [], slice_index, IsTrue, Option, greatest_vector, Source, Resample, Line, TickSource, Targets, Shape, signalled_all, signalled, Part, Status, TickState, Call, write_to, pin_accepted, pin_acked, LocalApic, giveable_of, given, without_service, store_to, written, taken, accepted, hold, tick_acked, tick_injected, is_ignored, in_mode, has_resampler, resampled, watched, RegistryPart, Routing, routing_of_registry, ioapic_of, with_ioapic, with_pair, TargetAnswer, About, ValueOf, Board, part_of, with_part, source_of, pic_raised, ioapic_raised, pic_let_go, ioapic_let_go, inject_tick, plan_in_range, Pulse, Over, IoapicChip as Ioapic, Register, register_of, register_written, service_number, given_number, store_number, no_reason, Pin}
 use Rattle.ioapic_82093aa.specs.declared.registers.Register.TheVariants as ioregisters
-use Rattle.ioapic_82093aa.specs.Registers.{register_of}
-use Rattle.ioapic_82093aa.specs.Pins.{register_written}
-use Rattle.board_calls.proofs.Numbers.{service_number, given_number, store_number}
 use Rattle.board_step.proofs.SoundCounts.{counts_signalled, counts_taken, counts_written, counts_signalled_all, NoTriggers}
 use Rattle.board_step.proofs.SoundPlans.{Fine, Each, each_with}
 use Rattle.board_step.proofs.SoundSends.{accepted_number, MayHold}
 use Rattle.board_step.proofs.SoundRegistry.{RegistryFine, resampled_free, watched_free, no_irqfd, irqfd_resamples, may_hold}
 use Rattle.board_step.proofs.SoundHolds.{hold_more, hold_less}
-use Rattle.board_step.proofs.Walk.{Walk, Holds, Seen}
-use Rattle.board_step.proofs.WalkSignals.{Signals, MayRaise}
-use Rattle.board_step.proofs.WalkKept.{walk, KeptBySignals, KeptByCalls, signals_kept, tick_kept, calls_kept}
-use Rattle.route_table.proofs.Sound.{no_reason}
-use Rattle.board_step.proofs.WalkCalls.{is_plain, plain_holds}
 
 pub tick_injected_low : (s : TickState) (status : Status) (bound : ℕ) → s.pending ≤ bound → (tick_injected s status).pending ≤ bound
 tick_injected_low s status bound low = elim s.reinjects as (λ t. (if t then record s { free = is_ignored status } else s).pending ≤ bound) [ true ↦ low | false ↦ low ]
@@ -76,18 +59,18 @@ module _ (r : RegistryPart) (shape : Shape) (bound : ℕ) where
 
   pub may_raise : (targets : Targets) (source : Source) → MayHold r targets source → MayRaise sound targets source
   may_raise targets source may = record {
-    pic = λ pin is b each. let there = may.pic pin is in fits parts.Pic (pic_raised b.pic pin source) b each (hold_more r b.pic.holds 16 pins.Pic pin source (each parts.Pic) there.0 there.1);
+    pic = λ pin is b each. let there = may.pic pin is in fits Part.Pic (pic_raised b.pic pin source) b each (hold_more r b.pic.holds 16 Pin.Pic pin source (each Part.Pic) there.0 there.1);
     ioapic = λ pin is b each. let there = may.ioapic pin is in
-        fits parts.Ioapic (ioapic_raised b.ioapic pin source) b each (record { entries = (each parts.Ioapic).entries; holds = hold_more r b.ioapic.holds 24 pins.Ioapic pin source (each parts.Ioapic).holds there.0 there.1 });
+        fits Part.Ioapic (ioapic_raised b.ioapic pin source) b each (record { entries = (each Part.Ioapic).entries; holds = hold_more r b.ioapic.holds 24 Pin.Ioapic pin source (each Part.Ioapic).holds there.0 there.1 });
   }
 
   pub signals_keep : KeptBySignals (Each r shape bound)
   signals_keep = record {
-    accepts = λ n apic message seen b each. fits (parts.Lapic n) (accepted apic message) b each (accepted_number apic message ∙ ap (λ (a : LocalApic). a.number) seen.2 ∙ seen.1 (parts.Lapic n));
-    remote_irrs = λ pin b each. fits parts.Ioapic (with_ioapic b.ioapic (pin_accepted (ioapic_of b.ioapic) pin)) b each (record { entries = length-set b.ioapic.entries pin _ ∙ (each parts.Ioapic).entries; holds = (each parts.Ioapic).holds });
-    pic_leaves = λ pin source b each. fits parts.Pic (pic_let_go b.pic pin source) b each (hold_less r b.pic.holds 16 pins.Pic (hold pin source) (each parts.Pic));
+    accepts = λ n apic message seen b each. fits (Part.Lapic n) (accepted apic message) b each (accepted_number apic message ∙ ap (λ (a : LocalApic). a.number) seen.2 ∙ seen.1 (Part.Lapic n));
+    remote_irrs = λ pin b each. fits Part.Ioapic (with_ioapic b.ioapic (pin_accepted (ioapic_of b.ioapic) pin)) b each (record { entries = length-set b.ioapic.entries pin _ ∙ (each Part.Ioapic).entries; holds = (each Part.Ioapic).holds });
+    pic_leaves = λ pin source b each. fits Part.Pic (pic_let_go b.pic pin source) b each (hold_less r b.pic.holds 16 Pin.Pic (hold pin source) (each Part.Pic));
     ioapic_leaves = λ pin source b each.
-        fits parts.Ioapic (ioapic_let_go b.ioapic pin source) b each (record { entries = (each parts.Ioapic).entries; holds = hold_less r b.ioapic.holds 24 pins.Ioapic (hold pin source) (each parts.Ioapic).holds });
+        fits Part.Ioapic (ioapic_let_go b.ioapic pin source) b each (record { entries = (each Part.Ioapic).entries; holds = hold_less r b.ioapic.holds 24 Pin.Ioapic (hold pin source) (each Part.Ioapic).holds });
   }
 
   pub sound_signals : Signals sound
@@ -106,28 +89,28 @@ module _ (r : RegistryPart) (shape : Shape) (bound : ℕ) where
       lines = λ gsi line. may gsi (Line line) (line_is_not line);
       fires = λ counter trigger is. may trigger.gsi (source_of trigger.resample) (λ e. irqfd_resamples r.irqfds counter trigger is (resamples_if trigger.resample e));
       ticks = may shape.tick TickSource tick_is_not;
-      resamples = λ registry gsi seen b each. fits parts.Counters (signalled_all b.counters (resampled registry.irqfds gsi)) b each
-          (counts_signalled_all r shape.counters (resampled registry.irqfds gsi) b.counters (each parts.Counters) (subst (λ (q : RegistryPart). NoTriggers r (resampled q.irqfds gsi)) (sym (is_seen registry seen)) (resampled_free shape r fine gsi)));
-      notifies = λ registry gsi seen b each. fits parts.Counters (signalled_all b.counters (watched registry.watches gsi)) b each
-          (counts_signalled_all r shape.counters (watched registry.watches gsi) b.counters (each parts.Counters) (subst (λ (q : RegistryPart). NoTriggers r (watched q.watches gsi)) (sym (is_seen registry seen)) (watched_free shape r fine gsi)));
-      clears = λ pin b each. fits parts.Ioapic (with_ioapic b.ioapic (pin_acked (ioapic_of b.ioapic) pin)) b each (record { entries = length-set b.ioapic.entries pin _ ∙ (each parts.Ioapic).entries; holds = (each parts.Ioapic).holds });
-      frees = λ b each. fits parts.Tick (tick_acked b.tick) b each (tick_acked_low b.tick bound (each parts.Tick));
-      falls = λ status b each. fits parts.Tick (tick_injected b.tick status) b each (tick_injected_low b.tick status bound (each parts.Tick));
-      pairs = λ pair b each. fits parts.Pic (with_pair b.pic pair) b each (each parts.Pic);
-      stores = λ offset value b each. fits parts.Ioapic (with_ioapic b.ioapic (write_to (ioapic_of b.ioapic) offset value).after) b each (record { entries = write_length (ioapic_of b.ioapic) offset value ∙ (each parts.Ioapic).entries; holds = (each parts.Ioapic).holds });
-      registers = λ n offset value b each. fits (parts.Lapic n) (store_to (part_of b (parts.Lapic n)) offset value) b each (store_number (part_of b (parts.Lapic n)) offset value ∙ each (parts.Lapic n));
-      services = λ n b each. let a : LocalApic = part_of b (parts.Lapic n) in fits (parts.Lapic n) (without_service a (greatest_vector a.isr)) b each (service_number a (greatest_vector a.isr) ∙ each (parts.Lapic n));
-      nmis = λ n b each. fits (parts.Lapic n) (record (part_of b (parts.Lapic n)) { nmi = false }) b each (each (parts.Lapic n));
-      gives = λ n b each. let a : LocalApic = part_of b (parts.Lapic n) in fits (parts.Lapic n) (given a (giveable_of a)) b each (given_number a (giveable_of a) ∙ each (parts.Lapic n));
-      rung = λ counter none b each. fits parts.Counters (signalled b.counters counter) b each (counts_signalled r shape.counters b.counters counter (each parts.Counters) (no_irqfd r.irqfds counter none));
-      counts = λ counter n none b each fits_in. fits parts.Counters (written b.counters counter n) b each
-          (counts_written r shape.counters b.counters counter (slice_index b.counters counter + n) (each parts.Counters) (no_irqfd r.irqfds counter none) (not_over (2 ^ 64 - 2) (slice_index b.counters counter + n) (no_reason (nat_lt (2 ^ 64 - 2) (slice_index b.counters counter + n)) Over [] fits_in).0));
-      takes = λ counter b each. fits parts.Counters (taken b.counters counter) b each (counts_taken r shape.counters b.counters counter (each parts.Counters));
-      modes = λ reinject b each. fits parts.Tick (in_mode reinject) b each (omega arith);
+      resamples = λ registry gsi seen b each. fits Part.Counters (signalled_all b.counters (resampled registry.irqfds gsi)) b each
+          (counts_signalled_all r shape.counters (resampled registry.irqfds gsi) b.counters (each Part.Counters) (subst (λ (q : RegistryPart). NoTriggers r (resampled q.irqfds gsi)) (sym (is_seen registry seen)) (resampled_free shape r fine gsi)));
+      notifies = λ registry gsi seen b each. fits Part.Counters (signalled_all b.counters (watched registry.watches gsi)) b each
+          (counts_signalled_all r shape.counters (watched registry.watches gsi) b.counters (each Part.Counters) (subst (λ (q : RegistryPart). NoTriggers r (watched q.watches gsi)) (sym (is_seen registry seen)) (watched_free shape r fine gsi)));
+      clears = λ pin b each. fits Part.Ioapic (with_ioapic b.ioapic (pin_acked (ioapic_of b.ioapic) pin)) b each (record { entries = length-set b.ioapic.entries pin _ ∙ (each Part.Ioapic).entries; holds = (each Part.Ioapic).holds });
+      frees = λ b each. fits Part.Tick (tick_acked b.tick) b each (tick_acked_low b.tick bound (each Part.Tick));
+      falls = λ status b each. fits Part.Tick (tick_injected b.tick status) b each (tick_injected_low b.tick status bound (each Part.Tick));
+      pairs = λ pair b each. fits Part.Pic (with_pair b.pic pair) b each (each Part.Pic);
+      stores = λ offset value b each. fits Part.Ioapic (with_ioapic b.ioapic (write_to (ioapic_of b.ioapic) offset value).after) b each (record { entries = write_length (ioapic_of b.ioapic) offset value ∙ (each Part.Ioapic).entries; holds = (each Part.Ioapic).holds });
+      registers = λ n offset value b each. fits (Part.Lapic n) (store_to (part_of b (Part.Lapic n)) offset value) b each (store_number (part_of b (Part.Lapic n)) offset value ∙ each (Part.Lapic n));
+      services = λ n b each. let a : LocalApic = part_of b (Part.Lapic n) in fits (Part.Lapic n) (without_service a (greatest_vector a.isr)) b each (service_number a (greatest_vector a.isr) ∙ each (Part.Lapic n));
+      nmis = λ n b each. fits (Part.Lapic n) (record (part_of b (Part.Lapic n)) { nmi = false }) b each (each (Part.Lapic n));
+      gives = λ n b each. let a : LocalApic = part_of b (Part.Lapic n) in fits (Part.Lapic n) (given a (giveable_of a)) b each (given_number a (giveable_of a) ∙ each (Part.Lapic n));
+      rung = λ counter none b each. fits Part.Counters (signalled b.counters counter) b each (counts_signalled r shape.counters b.counters counter (each Part.Counters) (no_irqfd r.irqfds counter none));
+      counts = λ counter n none b each fits_in. fits Part.Counters (written b.counters counter n) b each
+          (counts_written r shape.counters b.counters counter (slice_index b.counters counter + n) (each Part.Counters) (no_irqfd r.irqfds counter none) (not_over (2 ^ 64 - 2) (slice_index b.counters counter + n) (no_reason (nat_lt (2 ^ 64 - 2) (slice_index b.counters counter + n)) Over [] fits_in).0));
+      takes = λ counter b each. fits Part.Counters (taken b.counters counter) b each (counts_taken r shape.counters b.counters counter (each Part.Counters));
+      modes = λ reinject b each. fits Part.Tick (in_mode reinject) b each (omega arith);
     }
       where
-        is_seen : (registry : RegistryPart) → Seen sound parts.Registry registry → registry ≡ r
-        is_seen registry seen = seen.2 ∙ seen.1 parts.Registry
+        is_seen : (registry : RegistryPart) → Seen sound Part.Registry registry → registry ≡ r
+        is_seen registry seen = seen.2 ∙ seen.1 Part.Registry
 
     pub sound_plain : (n : ℕ) (call : Call) → is_plain call ≡ true → Holds sound (plan_in_range routing shape n call)
     sound_plain = plain_holds sound routing shape (calls_kept (Each r shape bound) routing shape sound_calls)

@@ -1,24 +1,9 @@
 -- The calls that change the registry lead from a sound board to one.
-use Rattle.board_step.proofs.Basics.{◌≡◌, ℕ, ◌<◌, ◌≤◌, zero, suc, Bool, true, false, not, ◌&&◌, ◌||◌, nat_eq, nat_lt, nat_le, inl, inr, List, [], ◌∷◌, ◌++◌, length, get_or, filter, All, Some, None, refl, sym, subst, ◌∙◌, arith, length-append, IsTrue, is_some, AllPairs, slice_get, slice_set, slice_index, list_any, Option, eqb_tells, All-push, All-filter, All-weaker, list_any-append, AllPairs-filter}
-use Rattle.board_step.proofs.Types.pins
-use Rattle.board_step.proofs.Types.parts
-use Rattle.board_step.proofs.Types.{first_of, Pin, Refusal, Busy, RoleClash, Full, Done, Shape, Irqfd, Watch, IoRow}
-use Rattle.board_step.proofs.Chips.irqfds
-use Rattle.board_step.proofs.Chips.watches
-use Rattle.board_step.proofs.Chips.ioevents
-use Rattle.board_step.proofs.Chips.{targets_of, taken}
-use Rattle.board_step.proofs.Plans.{RegistryPart, routing_of_registry, IsSoundIrqfd, Board, injected, Plan, reply, ◌>>◌, Wishes, run}
-use Rattle.board_step.proofs.Calls.{IrqfdFits, WatchFits, is_trigger, is_counter, has_resample, is_signalled, resample_clashes, assign_reasons, attach_reasons, detach_reasons, watch_reasons, unwatch_reasons, unless_refused, source_of, inject_count, assign, attach, detach, watch, unwatch}
-use Rattle.std.proofs.Common.{IfSome}
-use Rattle.irq_base.specs.declared.refusal.Refusal.TheVariants.{Exists}
-use Rattle.route_table.proofs.Sound.{no_reason}
-use Rattle.board_step.specs.Sound.{HasResampler}
+use Rattle.board_step.proofs.Walks.{Holds, after, inject_count_holds, shows}
+use Rattle.board_step.proofs.Basics.{◌≡◌, ℕ, ◌<◌, ◌≤◌, zero, suc, Bool, true, false, not, ◌&&◌, ◌||◌, nat_eq, nat_lt, nat_le, inl, inr, List, [], ◌∷◌, ◌++◌, length, get_or, filter, All, Some, None, refl, sym, subst, ◌∙◌, arith, length-append, IsTrue, is_some, AllPairs, slice_get, slice_set, slice_index, list_any, Option, eqb_tells, All-push, All-filter, All-weaker, list_any-append, AllPairs-filter, first_of, Pin, Refusal, Busy, RoleClash, Full, Done, Shape, Irqfd, Watch, IoRow, targets_of, taken, RegistryPart, routing_of_registry, IsSoundIrqfd, Board, injected, Plan, reply, ◌>>◌, Wishes, run, IrqfdFits, WatchFits, is_trigger, is_counter, has_resample, is_signalled, resample_clashes, assign_reasons, attach_reasons, detach_reasons, watch_reasons, unwatch_reasons, unless_refused, source_of, inject_count, assign, attach, detach, watch, unwatch, IfSome, Exists, no_reason, HasResampler, Part, has_trigger, has_resampler, resamples, is_same_ioevent, do_collide, is_named_watch, has_watch_row, has_counter}
 use Rattle.board_step.proofs.SoundCounts.{CountsFine, counts_taken}
 use Rattle.board_step.proofs.SoundPlans.{Each}
 use Rattle.board_step.proofs.SoundSends.{MayHold}
-use Rattle.board_step.proofs.Walk.{Holds, after}
-use Rattle.board_step.proofs.WalkCalls.{inject_count_holds}
-use Rattle.board_step.proofs.WalkKept.{shows}
 use Rattle.board_step.proofs.SoundRegistry.{RegistryFine, may_hold}
 use Rattle.board_step.proofs.SoundCalls.{resamples_if, sound, may_raise, signals_keep, sound_signals}
 use Rattle.board_step.proofs.SoundRows.{or_neither, or_both, each_fails, pairs_push, none_fewer, length_fewer}
@@ -33,17 +18,17 @@ pub kept_whole : {A : Type 0} (shape : Shape) (bound : ℕ) (r : RegistryPart) (
 kept_whole {A} shape bound r m b ws fine keeps each =
     let left = keeps b ws each in
     let o = (run m b ws).board in
-    let both : RegistryFine shape o.registry × Each o.registry shape bound o = subst (λ (q : RegistryPart). RegistryFine shape q × Each q shape bound o) (sym (left parts.Registry)) (fine, left) in
+    let both : RegistryFine shape o.registry × Each o.registry shape bound o = subst (λ (q : RegistryPart). RegistryFine shape q × Each q shape bound o) (sym (left Part.Registry)) (fine, left) in
     record { fine = both.0; each = both.1 }
 
 -- another registry with the same pins, whose triggers were such before
 pub moved : (shape : Shape) (bound : ℕ) (r s : RegistryPart) (b : Board) → Each r shape bound b → ((c : ℕ) → IsTrue (is_trigger s c) → IsTrue (is_trigger r c)) → ((pin : Pin) → HasResampler r pin → HasResampler s pin) → Each s shape bound (record b { registry = s })
-moved shape bound r s b each triggers resamplers parts.Registry = refl
-moved shape bound r s b each triggers resamplers parts.Counters = let c = each parts.Counters in record { number = c.number; greatest = c.greatest; triggers = λ counter count on at. c.triggers counter count (triggers counter on) at }
-moved shape bound r s b each triggers resamplers parts.Tick = each parts.Tick
-moved shape bound r s b each triggers resamplers parts.Pic = let h = each parts.Pic in record { there = h.there; resample = λ pin held. resamplers (pins.Pic pin) (h.resample pin held) }
-moved shape bound r s b each triggers resamplers parts.Ioapic = let h = each parts.Ioapic in record { entries = h.entries; holds = record { there = h.holds.there; resample = λ pin held. resamplers (pins.Ioapic pin) (h.holds.resample pin held) } }
-moved shape bound r s b each triggers resamplers (parts.Lapic n) = each (parts.Lapic n)
+moved shape bound r s b each triggers resamplers Part.Registry = refl
+moved shape bound r s b each triggers resamplers Part.Counters = let c = each Part.Counters in record { number = c.number; greatest = c.greatest; triggers = λ counter count on at. c.triggers counter count (triggers counter on) at }
+moved shape bound r s b each triggers resamplers Part.Tick = each Part.Tick
+moved shape bound r s b each triggers resamplers Part.Pic = let h = each Part.Pic in record { there = h.there; resample = λ pin held. resamplers (Pin.Pic pin) (h.resample pin held) }
+moved shape bound r s b each triggers resamplers Part.Ioapic = let h = each Part.Ioapic in record { entries = h.entries; holds = record { there = h.holds.there; resample = λ pin held. resamplers (Pin.Ioapic pin) (h.holds.resample pin held) } }
+moved shape bound r s b each triggers resamplers (Part.Lapic n) = each (Part.Lapic n)
 
 -- a call that is refused leads to the board itself
 pub unless_whole : (shape : Shape) (bound : ℕ) (b : Board) (ws : Wishes) (refusal : Option Refusal) (plan : Plan (Unit {0})) → Whole shape bound b → (refusal ≡ None → Whole shape bound (run plan b ws).board) → Whole shape bound (run (unless_refused refusal plan) b ws).board
@@ -64,11 +49,11 @@ none_more : {X : Type 0} (p : X → Bool) (xs : List X) (x : X) → list_any p x
 none_more p xs x none off = list_any-append p xs (x ∷ []) ∙ or_both (list_any p xs) (p x || false) none (or_both (p x) false off refl)
 
 -- a trigger that is signalled by no row is signalled by none with a notifier more of another counter
-roles_more : (f : ℕ → Bool) (rows : List Watch) (row : Watch) (all : List Irqfd) → All (λ (i : Irqfd). (f i.trigger || watches.has_counter rows i.trigger) ≡ false) all → All (λ (i : Irqfd). irqfds.has_trigger row.counter i ≡ false) all → All (λ (i : Irqfd). (f i.trigger || watches.has_counter (rows ++ row ∷ []) i.trigger) ≡ false) all
+roles_more : (f : ℕ → Bool) (rows : List Watch) (row : Watch) (all : List Irqfd) → All (λ (i : Irqfd). (f i.trigger || has_counter rows i.trigger) ≡ false) all → All (λ (i : Irqfd). has_trigger row.counter i ≡ false) all → All (λ (i : Irqfd). (f i.trigger || has_counter (rows ++ row ∷ []) i.trigger) ≡ false) all
 roles_more f rows row all old other k d below =
     let t = (get_or all k d).trigger in
-    let each = or_neither (f t) (watches.has_counter rows t) (old k d below) in
-    or_both (f t) (watches.has_counter (rows ++ row ∷ []) t) each.0 (none_more (λ (x : Watch). nat_eq x.counter t) rows row each.1 (turned_one t row.counter (other k d below)))
+    let each = or_neither (f t) (has_counter rows t) (old k d below) in
+    or_both (f t) (has_counter (rows ++ row ∷ []) t) each.0 (none_more (λ (x : Watch). nat_eq x.counter t) rows row each.1 (turned_one t row.counter (other k d below)))
 
 -- and with an irqfd more of another resample counter
 role_more : (rows : List Irqfd) (row : Irqfd) (g : Bool) (t : ℕ) → (list_any (has_resample t) rows || g) ≡ false → has_resample t row ≡ false → (list_any (has_resample t) (rows ++ row ∷ []) || g) ≡ false
@@ -79,12 +64,12 @@ clash_free : (r : RegistryPart) (trigger : ℕ) (resample : Option ℕ) → resa
 clash_free r trigger None e = (refl, λ k d below. refl)
 clash_free r trigger (Some c) e =
     let each = or_neither (nat_eq c trigger) (is_trigger r c) e in
-    (each.0, All-weaker (λ (i : Irqfd). irqfds.has_trigger c i ≡ false) (λ (i : Irqfd). is_counter i.trigger (Some c) ≡ false) (λ i off. turned_one i.trigger c off) r.irqfds (each_fails (irqfds.has_trigger c) r.irqfds each.1))
+    (each.0, All-weaker (λ (i : Irqfd). has_trigger c i ≡ false) (λ (i : Irqfd). is_counter i.trigger (Some c) ≡ false) (λ i off. turned_one i.trigger c off) r.irqfds (each_fails (has_trigger c) r.irqfds each.1))
 
 -- ---- ioeventfds
 
 module _ (shape : Shape) (bound : ℕ) (b : Board) (ws : Wishes) (w : Whole shape bound b) where
-  with_events : (events : List IoRow) → All (λ (e : IoRow). e.counter < shape.counters) events → AllPairs (λ (row other : IoRow). ioevents.do_collide row other ≡ false) events → length events ≤ 256 → Whole shape bound (record b { registry = record b.registry { ioevents = events } })
+  with_events : (events : List IoRow) → All (λ (e : IoRow). e.counter < shape.counters) events → AllPairs (λ (row other : IoRow). do_collide row other ≡ false) events → length events ≤ 256 → Whole shape bound (record b { registry = record b.registry { ioevents = events } })
   with_events events named apart count = record {
     fine = record {
       sound = record { table = w.fine.sound.table; irqfds = w.fine.sound.irqfds; watches = w.fine.sound.watches; ticks = w.fine.sound.ticks };
@@ -96,24 +81,24 @@ module _ (shape : Shape) (bound : ℕ) (b : Board) (ws : Wishes) (w : Whole shap
 
   pub attach_whole : (row : IoRow) → row.counter < shape.counters → Whole shape bound (run (attach row) b ws).board
   attach_whole row below = unless_whole shape bound b ws (first_of (attach_reasons b.registry row)) _ w (λ none.
-      let clash = no_reason (list_any (λ other. ioevents.do_collide other row) b.registry.ioevents) Exists ((nat_le 256 (length b.registry.ioevents), Full) ∷ []) none in
+      let clash = no_reason (list_any (λ other. do_collide other row) b.registry.ioevents) Exists ((nat_le 256 (length b.registry.ioevents), Full) ∷ []) none in
       let full : length b.registry.ioevents < 256 = less_of 256 (length b.registry.ioevents) (no_reason (nat_le 256 (length b.registry.ioevents)) Full [] clash.1).0 in
       with_events (b.registry.ioevents ++ row ∷ [])
       (All-push (λ (e : IoRow). e.counter < shape.counters) b.registry.ioevents row w.fine.named.ioevents below)
-      (pairs_push (λ (row other : IoRow). ioevents.do_collide row other ≡ false) b.registry.ioevents row w.fine.distinct.ioevents (each_fails (λ other. ioevents.do_collide other row) b.registry.ioevents clash.0))
+      (pairs_push (λ (row other : IoRow). do_collide row other ≡ false) b.registry.ioevents row w.fine.distinct.ioevents (each_fails (λ other. do_collide other row) b.registry.ioevents clash.0))
       (omega (arith, length-append b.registry.ioevents (row ∷ []), full)))
 
   pub detach_whole : (row : IoRow) → Whole shape bound (run (detach row) b ws).board
   detach_whole row = unless_whole shape bound b ws (first_of (detach_reasons b.registry row)) _ w (λ _.
-      let keep : IoRow → Bool = λ other. not (ioevents.is_same row other) in
+      let keep : IoRow → Bool = λ other. not (is_same_ioevent row other) in
       with_events (filter keep b.registry.ioevents)
       (All-filter keep (λ (e : IoRow). e.counter < shape.counters) b.registry.ioevents w.fine.named.ioevents)
-      (AllPairs-filter (λ (row other : IoRow). ioevents.do_collide row other ≡ false) keep b.registry.ioevents w.fine.distinct.ioevents)
+      (AllPairs-filter (λ (row other : IoRow). do_collide row other ≡ false) keep b.registry.ioevents w.fine.distinct.ioevents)
       (let fewer = length_fewer keep b.registry.ioevents in omega (arith, fewer, w.fine.distinct.ioevent_count)))
 
   -- ---- acknowledge notifiers
 
-  with_watches : (rows : List Watch) → All (WatchFits shape.counters) rows → AllPairs (λ (row other : Watch). watches.is_named row.counter row.gsi other ≡ false) rows → length rows ≤ 256
+  with_watches : (rows : List Watch) → All (WatchFits shape.counters) rows → AllPairs (λ (row other : Watch). is_named_watch row.counter row.gsi other ≡ false) rows → length rows ≤ 256
       → All (λ (row : Irqfd). is_signalled (record b.registry { watches = rows }) row.trigger ≡ false) b.registry.irqfds → Whole shape bound (record b { registry = record b.registry { watches = rows } })
   with_watches rows named apart count roles = record {
     fine = record {
@@ -128,26 +113,26 @@ module _ (shape : Shape) (bound : ℕ) (b : Board) (ws : Wishes) (w : Whole shap
   watch_whole counter gsi below low = unless_whole shape bound b ws (first_of (watch_reasons b.registry counter gsi)) _ w (λ none.
       let rows = b.registry.watches in
       let row : Watch = record { counter = counter; gsi = gsi } in
-      let clash = no_reason (is_trigger b.registry counter) RoleClash ((watches.has_row rows counter gsi, Exists) ∷ (nat_le 256 (length rows), Full) ∷ []) none in
-      let there = no_reason (watches.has_row rows counter gsi) Exists ((nat_le 256 (length rows), Full) ∷ []) clash.1 in
+      let clash = no_reason (is_trigger b.registry counter) RoleClash ((has_watch_row rows counter gsi, Exists) ∷ (nat_le 256 (length rows), Full) ∷ []) none in
+      let there = no_reason (has_watch_row rows counter gsi) Exists ((nat_le 256 (length rows), Full) ∷ []) clash.1 in
       let full : length rows < 256 = less_of 256 (length rows) (no_reason (nat_le 256 (length rows)) Full [] there.1).0 in
       with_watches (rows ++ row ∷ [])
       (All-push (WatchFits shape.counters) rows row w.fine.named.watches (record { counter = below; gsi = low }))
-      (pairs_push (λ (row other : Watch). watches.is_named row.counter row.gsi other ≡ false) rows row w.fine.distinct.watches
-      (All-weaker (λ (other : Watch). watches.is_named counter gsi other ≡ false) (λ (other : Watch). watches.is_named other.counter other.gsi row ≡ false) (λ other off. turned counter gsi other.counter other.gsi off) rows (each_fails (watches.is_named counter gsi) rows there.0)))
+      (pairs_push (λ (row other : Watch). is_named_watch row.counter row.gsi other ≡ false) rows row w.fine.distinct.watches
+      (All-weaker (λ (other : Watch). is_named_watch counter gsi other ≡ false) (λ (other : Watch). is_named_watch other.counter other.gsi row ≡ false) (λ other off. turned counter gsi other.counter other.gsi off) rows (each_fails (is_named_watch counter gsi) rows there.0)))
       (omega (arith, length-append rows (row ∷ []), full))
-      (roles_more (λ n. list_any (has_resample n) b.registry.irqfds) rows row b.registry.irqfds w.fine.distinct.roles (each_fails (irqfds.has_trigger counter) b.registry.irqfds clash.0)))
+      (roles_more (λ n. list_any (has_resample n) b.registry.irqfds) rows row b.registry.irqfds w.fine.distinct.roles (each_fails (has_trigger counter) b.registry.irqfds clash.0)))
 
   pub unwatch_whole : (counter gsi : ℕ) → Whole shape bound (run (unwatch counter gsi) b ws).board
   unwatch_whole counter gsi = unless_whole shape bound b ws (first_of (unwatch_reasons b.registry counter gsi)) _ w (λ _.
       let rows = b.registry.watches in
-      let keep : Watch → Bool = λ row. not (watches.is_named counter gsi row) in
+      let keep : Watch → Bool = λ row. not (is_named_watch counter gsi row) in
       with_watches (filter keep rows)
       (All-filter keep (WatchFits shape.counters) rows w.fine.named.watches)
-      (AllPairs-filter (λ (row other : Watch). watches.is_named row.counter row.gsi other ≡ false) keep rows w.fine.distinct.watches)
+      (AllPairs-filter (λ (row other : Watch). is_named_watch row.counter row.gsi other ≡ false) keep rows w.fine.distinct.watches)
       (let fewer = length_fewer keep rows in omega (arith, fewer, w.fine.distinct.watch_count))
       (All-weaker (λ (i : Irqfd). is_signalled b.registry i.trigger ≡ false) (λ (i : Irqfd). is_signalled (record b.registry { watches = filter keep rows }) i.trigger ≡ false)
-      (λ i off. let each = or_neither (list_any (has_resample i.trigger) b.registry.irqfds) (watches.has_counter rows i.trigger) off in or_both (list_any (has_resample i.trigger) b.registry.irqfds) (watches.has_counter (filter keep rows) i.trigger) each.0 (none_fewer (λ row. nat_eq row.counter i.trigger) keep rows each.1))
+      (λ i off. let each = or_neither (list_any (has_resample i.trigger) b.registry.irqfds) (has_counter rows i.trigger) off in or_both (list_any (has_resample i.trigger) b.registry.irqfds) (has_counter (filter keep rows) i.trigger) each.0 (none_fewer (λ row. nat_eq row.counter i.trigger) keep rows each.1))
       b.registry.irqfds w.fine.distinct.roles))
 
 -- ---- irqfds
@@ -164,37 +149,37 @@ or_there : (a b : Bool) → b ≡ true → (a || b) ≡ true
 or_there a b h1 = grind arith
 
 -- a row with a resample counter is a resampler of its GSI
-pub own_row : (r : RegistryPart) (row : Irqfd) → is_some row.resample ≡ true → irqfds.has_resampler (r.irqfds ++ row ∷ []) row.gsi ≡ true
-own_row r row is = list_any-append (irqfds.resamples row.gsi) r.irqfds (row ∷ []) ∙ or_there (irqfds.has_resampler r.irqfds row.gsi) (irqfds.resamples row.gsi row || false) (own row.gsi (is_some row.resample) is)
+pub own_row : (r : RegistryPart) (row : Irqfd) → is_some row.resample ≡ true → has_resampler (r.irqfds ++ row ∷ []) row.gsi ≡ true
+own_row r row is = list_any-append (resamples row.gsi) r.irqfds (row ∷ []) ∙ or_there (has_resampler r.irqfds row.gsi) (resamples row.gsi row || false) (own row.gsi (is_some row.resample) is)
   where
     own : (n : ℕ) (c : Bool) → c ≡ true → ((nat_eq n n && c) || false) ≡ true
     own n c e = grind arith
 
 -- a GSI with a resampler has one with a row more
 pub more_resampler : (r : RegistryPart) (row : Irqfd) (pin : Pin) → HasResampler r pin → HasResampler (record r { irqfds = r.irqfds ++ row ∷ [] }) pin
-more_resampler r row pin h = record { gsi = h.gsi; named = h.named; resamples = list_any-append (irqfds.resamples h.gsi) r.irqfds (row ∷ []) ∙ or_here (irqfds.has_resampler r.irqfds h.gsi) (list_any (irqfds.resamples h.gsi) (row ∷ [])) h.resamples }
+more_resampler r row pin h = record { gsi = h.gsi; named = h.named; resamples = list_any-append (resamples h.gsi) r.irqfds (row ∷ []) ∙ or_here (has_resampler r.irqfds h.gsi) (list_any (resamples h.gsi) (row ∷ [])) h.resamples }
   where
     or_here : (a b : Bool) → a ≡ true → (a || b) ≡ true
     or_here a b h1 = grind arith
 
 -- a row is there, and the count of its trigger is 0
 assigned_each : (shape : Shape) (bound : ℕ) (r : RegistryPart) (row : Irqfd) (b : Board) → Each r shape bound b → Each (record r { irqfds = r.irqfds ++ row ∷ [] }) shape bound (record b { registry = record r { irqfds = r.irqfds ++ row ∷ [] }; counters = taken b.counters row.trigger })
-assigned_each shape bound r row b each parts.Registry = refl
-assigned_each shape bound r row b each parts.Counters = record {
+assigned_each shape bound r row b each Part.Registry = refl
+assigned_each shape bound r row b each Part.Counters = record {
   number = stands.number;
   greatest = stands.greatest;
   triggers = λ counter count on at. elim (eqb_tells row.trigger counter) [
     | inl h ↦ written_zero b.counters row.trigger count (subst (λ n. slice_get (taken b.counters row.trigger) n ≡ Some count) (sym h.1) at)
-    | inr h ↦ stands.triggers counter count (or_found (is_trigger r counter) (nat_eq row.trigger counter || false) (sym (list_any-append (irqfds.has_trigger counter) r.irqfds (row ∷ [])) ∙ on) (or_both (nat_eq row.trigger counter) false h.0 refl)) at
+    | inr h ↦ stands.triggers counter count (or_found (is_trigger r counter) (nat_eq row.trigger counter || false) (sym (list_any-append (has_trigger counter) r.irqfds (row ∷ [])) ∙ on) (or_both (nat_eq row.trigger counter) false h.0 refl)) at
   ];
 }
   where
     stands : CountsFine r shape.counters (taken b.counters row.trigger)
-    stands = counts_taken r shape.counters b.counters row.trigger (each parts.Counters)
-assigned_each shape bound r row b each parts.Tick = each parts.Tick
-assigned_each shape bound r row b each parts.Pic = let h = each parts.Pic in record { there = h.there; resample = λ pin held. more_resampler r row (pins.Pic pin) (h.resample pin held) }
-assigned_each shape bound r row b each parts.Ioapic = let h = each parts.Ioapic in record { entries = h.entries; holds = record { there = h.holds.there; resample = λ pin held. more_resampler r row (pins.Ioapic pin) (h.holds.resample pin held) } }
-assigned_each shape bound r row b each (parts.Lapic n) = each (parts.Lapic n)
+    stands = counts_taken r shape.counters b.counters row.trigger (each Part.Counters)
+assigned_each shape bound r row b each Part.Tick = each Part.Tick
+assigned_each shape bound r row b each Part.Pic = let h = each Part.Pic in record { there = h.there; resample = λ pin held. more_resampler r row (Pin.Pic pin) (h.resample pin held) }
+assigned_each shape bound r row b each Part.Ioapic = let h = each Part.Ioapic in record { entries = h.entries; holds = record { there = h.holds.there; resample = λ pin held. more_resampler r row (Pin.Ioapic pin) (h.holds.resample pin held) } }
+assigned_each shape bound r row b each (Part.Lapic n) = each (Part.Lapic n)
 
 module _ (shape : Shape) (bound : ℕ) (b : Board) (ws : Wishes) (w : Whole shape bound b) where
   assigned_fine : (row : Irqfd) → shape.counters ≤ 256 → IrqfdFits shape.counters row → first_of (assign_reasons b.registry row.trigger row.resample) ≡ None → RegistryFine shape (record b.registry { irqfds = b.registry.irqfds ++ row ∷ [] })
@@ -208,11 +193,11 @@ module _ (shape : Shape) (bound : ℕ) (b : Board) (ws : Wishes) (w : Whole shap
         sound = record { table = w.fine.sound.table; irqfds = All-push IsSoundIrqfd r.irqfds row w.fine.sound.irqfds (record { trigger = omega (arith, low, few); gsi = fits.gsi }); watches = w.fine.sound.watches; ticks = w.fine.sound.ticks };
         named = record { irqfds = All-push (IrqfdFits shape.counters) r.irqfds row w.fine.named.irqfds fits; watches = w.fine.named.watches; ioevents = w.fine.named.ioevents };
         distinct = record {
-          triggers = pairs_push (λ (a c : Irqfd). irqfds.has_trigger a.trigger c ≡ false) r.irqfds row w.fine.distinct.triggers
-              (All-weaker (λ (i : Irqfd). irqfds.has_trigger row.trigger i ≡ false) (λ (i : Irqfd). irqfds.has_trigger i.trigger row ≡ false) (λ i off. turned_one i.trigger row.trigger off) r.irqfds (each_fails (irqfds.has_trigger row.trigger) r.irqfds busy.0));
+          triggers = pairs_push (λ (a c : Irqfd). has_trigger a.trigger c ≡ false) r.irqfds row w.fine.distinct.triggers
+              (All-weaker (λ (i : Irqfd). has_trigger row.trigger i ≡ false) (λ (i : Irqfd). has_trigger i.trigger row ≡ false) (λ i off. turned_one i.trigger row.trigger off) r.irqfds (each_fails (has_trigger row.trigger) r.irqfds busy.0));
           roles = All-push (λ (i : Irqfd). is_signalled (record r { irqfds = r.irqfds ++ row ∷ [] }) i.trigger ≡ false) r.irqfds row
-              (λ k d below. role_more r.irqfds row (watches.has_counter r.watches (get_or r.irqfds k d).trigger) (get_or r.irqfds k d).trigger (w.fine.distinct.roles k d below) (free.1 k d below))
-              (role_more r.irqfds row (watches.has_counter r.watches row.trigger) row.trigger roles.0 free.0);
+              (λ k d below. role_more r.irqfds row (has_counter r.watches (get_or r.irqfds k d).trigger) (get_or r.irqfds k d).trigger (w.fine.distinct.roles k d below) (free.1 k d below))
+              (role_more r.irqfds row (has_counter r.watches row.trigger) row.trigger roles.0 free.0);
           watches = w.fine.distinct.watches;
           watch_count = w.fine.distinct.watch_count;
           ioevents = w.fine.distinct.ioevents;

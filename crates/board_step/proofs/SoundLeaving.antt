@@ -1,16 +1,5 @@
 -- An irqfd that ends, and a routing table that is replaced, lead from a sound board to one.
-use Rattle.board_step.proofs.Basics.set
-use Rattle.board_step.proofs.Basics.{◌≡◌, ◌≢◌, ℕ, Bool, true, false, true≢false, not, ◌&&◌, inl, inr, List, filter, All, Some, None, refl, sym, ap, subst, ◌∙◌, IsTrue, AllPairs, is_some, list_any, unsigned_Decides, Option, eqb_tells, All-filter, All-weaker, AllPairs-filter}
-use Rattle.board_step.proofs.Types.pins
-use Rattle.board_step.proofs.Types.parts
-use Rattle.board_step.proofs.Types.{Row, Pin, Resample, Removed, Shape, Irqfd}
-use Rattle.board_step.proofs.Chips.{Hold, Holds, hold, has_trigger, is_named, has_resampler, named_row, without_row, has_counter, table_of, targets_of, refusal_of, gsi_of}
-use Rattle.board_step.proofs.Plans.{RegistryPart, routing_of_registry, IsSoundIrqfd, Board, reply, ◌>>◌, Wishes, run}
-use Rattle.board_step.proofs.Calls.{IrqfdFits, let_go_pic, let_go_ioapic, is_trigger, has_resample, is_signalled, was_last_resampler, release, deassigned, deassign, kept_holds, reroute}
-use Rattle.route_table.specs.Rows.{is_same}
-use Rattle.board_step.specs.Laws.{PayloadFits}
-use Rattle.board_calls.specs.Registrations.{is_same_gsi, keeps_gsi}
-use Rattle.board_step.specs.Sound.{HasResampler, ResamplersHold, HoldsStand}
+use Rattle.board_step.proofs.Basics.{◌≡◌, ◌≢◌, ℕ, Bool, true, false, true≢false, not, ◌&&◌, inl, inr, List, filter, All, Some, None, refl, sym, ap, subst, ◌∙◌, IsTrue, AllPairs, is_some, list_any, unsigned_Decides, Option, eqb_tells, All-filter, All-weaker, AllPairs-filter, Row, Pin, Resample, Removed, Shape, Irqfd, Hold, Holds, hold, has_trigger, is_named, has_resampler, named_row, without_row, has_counter, table_of, targets_of, refusal_of, gsi_of, RegistryPart, routing_of_registry, IsSoundIrqfd, Board, reply, ◌>>◌, Wishes, run, IrqfdFits, let_go_pic, let_go_ioapic, is_trigger, has_resample, is_signalled, was_last_resampler, release, deassigned, deassign, kept_holds, reroute, is_same_pin as is_same, PayloadFits, is_same_gsi, keeps_gsi, HasResampler, ResamplersHold, HoldsStand, Part, contains, remove}
 use Rattle.board_step.proofs.SoundHolds.{was_held, not_removed, retained}
 use Rattle.board_step.proofs.SoundPlans.{Each}
 use Rattle.board_step.proofs.SoundRegistry.{RegistryFine, IsMade, target_of_gsi}
@@ -23,7 +12,7 @@ use Rattle.board_step.proofs.SoundTable.{table_is_sound}
 -- the holds after Resample let the pin go, if there is one
 abbrev pub freed : Holds → Option ℕ → Holds
 freed holds None = holds
-freed holds (Some pin) = set.remove holds (hold pin Resample)
+freed holds (Some pin) = remove holds (hold pin Resample)
 
 pub freed_run : (pic ioapic : Option ℕ) (b : Board) (ws : Wishes) →
     (run ((let_go_pic pic Resample >> let_go_ioapic ioapic Resample) >> reply (Removed 1)) b ws).board ≡ record b { pic = record b.pic { holds = freed b.pic.holds pic }; ioapic = record b.ioapic { holds = freed b.ioapic.holds ioapic } }
@@ -32,12 +21,12 @@ freed_run None (Some i) b ws = refl
 freed_run (Some p) None b ws = refl
 freed_run (Some p) (Some i) b ws = refl
 
-freed_held : (holds : Holds) (pin : Option ℕ) (h : Hold) → IsTrue (set.contains (freed holds pin) h) → IsTrue (set.contains holds h)
+freed_held : (holds : Holds) (pin : Option ℕ) (h : Hold) → IsTrue (contains (freed holds pin) h) → IsTrue (contains holds h)
 freed_held holds None h held = held
 freed_held holds (Some pin) h held = was_held holds (hold pin Resample) h held
 
-freed_other : (holds : Holds) (pin : Option ℕ) (n : ℕ) → pin ≡ Some n → IsTrue (set.contains (freed holds pin) (hold n Resample)) → ⊥
-freed_other holds pin n e held = not_removed holds (hold n Resample) (subst (λ o. IsTrue (set.contains (freed holds o) (hold n Resample))) e held)
+freed_other : (holds : Holds) (pin : Option ℕ) (n : ℕ) → pin ≡ Some n → IsTrue (contains (freed holds pin) (hold n Resample)) → ⊥
+freed_other holds pin n e held = not_removed holds (hold n Resample) (subst (λ o. IsTrue (contains (freed holds o) (hold n Resample))) e held)
 
 is_one : (o : Option ℕ) (n : ℕ) → is_same o (Some n) ≡ true → o ≡ Some n
 is_one None n e = absurd (true≢false (sym e))
@@ -96,11 +85,11 @@ module _ (r : RegistryPart) (trigger gsi : ℕ) where
       ]
 
   -- after the last one went and Resample left the GSI's pins
-  pub freed_pic : IsMade r.table → (holds : Holds) → ResamplersHold r holds pins.Pic → ResamplersHold without (freed holds (targets_of r.table gsi).pic) pins.Pic
-  freed_pic made holds stands = freed_for r without holds pins.Pic (targets_of r.table gsi).pic gsi stands (λ n named. is_one (targets_of r.table gsi).pic n (target_of_gsi r.table made (pins.Pic n) gsi named)) (λ n h ne. other_resampler (pins.Pic n) h ne)
+  pub freed_pic : IsMade r.table → (holds : Holds) → ResamplersHold r holds Pin.Pic → ResamplersHold without (freed holds (targets_of r.table gsi).pic) Pin.Pic
+  freed_pic made holds stands = freed_for r without holds Pin.Pic (targets_of r.table gsi).pic gsi stands (λ n named. is_one (targets_of r.table gsi).pic n (target_of_gsi r.table made (Pin.Pic n) gsi named)) (λ n h ne. other_resampler (Pin.Pic n) h ne)
 
-  pub freed_ioapic : IsMade r.table → (holds : Holds) → ResamplersHold r holds pins.Ioapic → ResamplersHold without (freed holds (targets_of r.table gsi).ioapic) pins.Ioapic
-  freed_ioapic made holds stands = freed_for r without holds pins.Ioapic (targets_of r.table gsi).ioapic gsi stands (λ n named. is_one (targets_of r.table gsi).ioapic n (target_of_gsi r.table made (pins.Ioapic n) gsi named)) (λ n h ne. other_resampler (pins.Ioapic n) h ne)
+  pub freed_ioapic : IsMade r.table → (holds : Holds) → ResamplersHold r holds Pin.Ioapic → ResamplersHold without (freed holds (targets_of r.table gsi).ioapic) Pin.Ioapic
+  freed_ioapic made holds stands = freed_for r without holds Pin.Ioapic (targets_of r.table gsi).ioapic gsi stands (λ n named. is_one (targets_of r.table gsi).ioapic n (target_of_gsi r.table made (Pin.Ioapic n) gsi named)) (λ n h ne. other_resampler (Pin.Ioapic n) h ne)
 
 module _ (shape : Shape) (bound : ℕ) (b : Board) (ws : Wishes) (w : Whole shape bound b) where
   without_fine : (trigger gsi : ℕ) → RegistryFine shape (without b.registry trigger gsi)
@@ -131,21 +120,21 @@ module _ (shape : Shape) (bound : ℕ) (b : Board) (ws : Wishes) (w : Whole shap
     pic = record b.pic { holds = freed b.pic.holds (targets_of b.registry.table gsi).pic };
     ioapic = record b.ioapic { holds = freed b.ioapic.holds (targets_of b.registry.table gsi).ioapic };
   })
-  freed_each trigger gsi parts.Registry = refl
-  freed_each trigger gsi parts.Counters = let c = w.each parts.Counters in record { number = c.number; greatest = c.greatest; triggers = λ counter count on at. c.triggers counter count (fewer_triggers trigger gsi counter on) at }
-  freed_each trigger gsi parts.Tick = w.each parts.Tick
-  freed_each trigger gsi parts.Pic = record {
-    there = λ h held. (w.each parts.Pic).there h (freed_held b.pic.holds (targets_of b.registry.table gsi).pic h held);
-    resample = freed_pic b.registry trigger gsi w.fine.sound.table.made b.pic.holds (w.each parts.Pic).resample;
+  freed_each trigger gsi Part.Registry = refl
+  freed_each trigger gsi Part.Counters = let c = w.each Part.Counters in record { number = c.number; greatest = c.greatest; triggers = λ counter count on at. c.triggers counter count (fewer_triggers trigger gsi counter on) at }
+  freed_each trigger gsi Part.Tick = w.each Part.Tick
+  freed_each trigger gsi Part.Pic = record {
+    there = λ h held. (w.each Part.Pic).there h (freed_held b.pic.holds (targets_of b.registry.table gsi).pic h held);
+    resample = freed_pic b.registry trigger gsi w.fine.sound.table.made b.pic.holds (w.each Part.Pic).resample;
   }
-  freed_each trigger gsi parts.Ioapic = record {
-    entries = (w.each parts.Ioapic).entries;
+  freed_each trigger gsi Part.Ioapic = record {
+    entries = (w.each Part.Ioapic).entries;
     holds = record {
-      there = λ h held. (w.each parts.Ioapic).holds.there h (freed_held b.ioapic.holds (targets_of b.registry.table gsi).ioapic h held);
-      resample = freed_ioapic b.registry trigger gsi w.fine.sound.table.made b.ioapic.holds (w.each parts.Ioapic).holds.resample;
+      there = λ h held. (w.each Part.Ioapic).holds.there h (freed_held b.ioapic.holds (targets_of b.registry.table gsi).ioapic h held);
+      resample = freed_ioapic b.registry trigger gsi w.fine.sound.table.made b.ioapic.holds (w.each Part.Ioapic).holds.resample;
     };
   }
-  freed_each trigger gsi (parts.Lapic n) = w.each (parts.Lapic n)
+  freed_each trigger gsi (Part.Lapic n) = w.each (Part.Lapic n)
 
   deassigned_whole : (trigger gsi : ℕ) (row : Option Irqfd) → named_row b.registry.irqfds trigger gsi ≡ row → Whole shape bound (run (deassigned (routing_of_registry b.registry shape.tick) b.registry trigger gsi row) b ws).board
   deassigned_whole trigger gsi None is = w
@@ -171,15 +160,15 @@ module _ (shape : Shape) (bound : ℕ) (b : Board) (ws : Wishes) (w : Whole shap
 
   routed_each : (rows : List Row) → Each (routed rows) shape bound (record b {
     registry = routed rows;
-    pic = record b.pic { holds = kept_holds b.registry.table (table_of rows) pins.Pic b.pic.holds };
-    ioapic = record b.ioapic { holds = kept_holds b.registry.table (table_of rows) pins.Ioapic b.ioapic.holds };
+    pic = record b.pic { holds = kept_holds b.registry.table (table_of rows) Pin.Pic b.pic.holds };
+    ioapic = record b.ioapic { holds = kept_holds b.registry.table (table_of rows) Pin.Ioapic b.ioapic.holds };
   })
-  routed_each rows parts.Registry = refl
-  routed_each rows parts.Counters = let c = w.each parts.Counters in record { number = c.number; greatest = c.greatest; triggers = c.triggers }
-  routed_each rows parts.Tick = w.each parts.Tick
-  routed_each rows parts.Pic = kept_stand rows b.pic.holds 16 pins.Pic (w.each parts.Pic)
-  routed_each rows parts.Ioapic = record { entries = (w.each parts.Ioapic).entries; holds = kept_stand rows b.ioapic.holds 24 pins.Ioapic (w.each parts.Ioapic).holds }
-  routed_each rows (parts.Lapic n) = w.each (parts.Lapic n)
+  routed_each rows Part.Registry = refl
+  routed_each rows Part.Counters = let c = w.each Part.Counters in record { number = c.number; greatest = c.greatest; triggers = c.triggers }
+  routed_each rows Part.Tick = w.each Part.Tick
+  routed_each rows Part.Pic = kept_stand rows b.pic.holds 16 Pin.Pic (w.each Part.Pic)
+  routed_each rows Part.Ioapic = record { entries = (w.each Part.Ioapic).entries; holds = kept_stand rows b.ioapic.holds 24 Pin.Ioapic (w.each Part.Ioapic).holds }
+  routed_each rows (Part.Lapic n) = w.each (Part.Lapic n)
 
   pub reroute_whole : (rows : List Row) → refusal_of rows ≡ None → All PayloadFits rows → Whole shape bound (run (reroute rows) b ws).board
   reroute_whole rows kept typed = record {

@@ -1,16 +1,5 @@
 -- A board at power-on is sound.
-use Rattle.board_step.proofs.Basics.set
-use Rattle.board_step.proofs.Basics.{◌≡◌, ℕ, ◌+◌, ◌-◌, ◌^◌, ◌<◌, ◌≤◌, zero, suc, false, true≢false, List, [], ◌∷◌, ◌++◌, map, length, refl, sym, ap, subst, ◌∙◌, arith, length-append, IsTrue, AllPairs, slice_get, unwrap_or, contains-empty, length-replicate, All-nil}
-use Rattle.board_step.proofs.Types.{Pin, Resample, Irqfd, Watch, IoRow}
-use Rattle.board_step.proofs.Chips.{LocalApic, power_on, Hold, hold, hold_cmp, has_trigger}
-use Rattle.board_step.proofs.Plans.{RegistryPart, IsSoundIrqfd}
-use Rattle.board_step.proofs.Calls.{IrqfdFits, WatchFits, numbers_below}
-use Rattle.std.proofs.lemmas.List.Elements.{All-replicate}
-use Rattle.ack_notifiers.specs.Rows.{is_named}
-use Rattle.ioevent_set.specs.Rows.{do_collide}
-use Rattle.board_step.specs.History.{opening_registry}
-use Rattle.board_step.specs.Sound.{HoldsStand}
-use Rattle.board_step.specs.Laws.{OpeningIsSound}
+use Rattle.board_step.proofs.Basics.{◌≡◌, ℕ, ◌+◌, ◌-◌, ◌^◌, ◌<◌, ◌≤◌, zero, suc, false, true≢false, List, [], ◌∷◌, ◌++◌, map, length, refl, sym, ap, subst, ◌∙◌, arith, length-append, IsTrue, AllPairs, slice_get, unwrap_or, contains-empty, length-replicate, All-nil, Pin, Resample, Irqfd, Watch, IoRow, LocalApic, power_on, Hold, hold, hold_cmp, has_trigger, RegistryPart, IsSoundIrqfd, IrqfdFits, WatchFits, numbers_below, All-replicate, is_named_watch as is_named, do_collide, opening_registry, HoldsStand, OpeningIsSound, contains, empty}
 use Rattle.board_step.proofs.SoundTable.{opening_table}
 
 -- local APICs whose numbers go up by one from a first
@@ -45,13 +34,13 @@ apics_numbered (suc k) = subst (Numbered 0) (sym (mapped (numbers_below k) k)) (
     last : (n : ℕ) → n ≡ k → k ≡ 0 + n
     last n e = omega arith
 
-no_holds : (r : RegistryPart) (count : ℕ) (chip : ℕ → Pin) → HoldsStand r set.empty count chip
+no_holds : (r : RegistryPart) (count : ℕ) (chip : ℕ → Pin) → HoldsStand r empty count chip
 no_holds r count chip = record {
   there = λ h held. absurd (none h held);
   resample = λ pin held. absurd (none (hold pin Resample) held);
 }
   where
-    none : (h : Hold) → IsTrue (set.contains (set.empty {R = hold_cmp}) h) → ⊥
+    none : (h : Hold) → IsTrue (contains (empty {R = hold_cmp}) h) → ⊥
     none h held = true≢false (sym held ∙ contains-empty hold_cmp h)
 
 no_pairs : {X : Type 0} (R : X → X → Type 0) → AllPairs R []

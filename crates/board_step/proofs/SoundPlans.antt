@@ -1,16 +1,10 @@
 -- Each part of a board as a sound board has it.
-use Rattle.board_step.proofs.Basics.{◌≡◌, ℕ, ◌≤◌, zero, suc, true, false, nat_eq, List, [], ◌∷◌, length, refl, ap, subst, ◌∙◌, arith, slice_get, slice_set, unwrap_or}
-use Rattle.board_step.proofs.Types.pins
-use Rattle.board_step.proofs.Types.{Part, Registry, Counters, Tick, Pic, Ioapic, Lapic, Shape}
-use Rattle.board_step.proofs.Chips.{LocalApic, power_on}
-use Rattle.board_step.proofs.Plans.{RegistryPart, IoapicPart, ValueOf, Board, part_of, with_part}
-use Rattle.board_model.proofs.Lens.{part_of-with_other}
-use Rattle.board_step.specs.Sound.{HoldsStand}
+use Rattle.board_step.proofs.Basics.{◌≡◌, ℕ, ◌≤◌, zero, suc, true, false, nat_eq, List, [], ◌∷◌, length, refl, ap, subst, ◌∙◌, arith, slice_get, slice_set, unwrap_or, Part, Registry, Counters, Tick, Pic, Ioapic, Lapic, Shape, LocalApic, power_on, RegistryPart, IoapicPart, ValueOf, Board, part_of, with_part, part_of-with_other, HoldsStand, Pin}
 use Rattle.board_step.proofs.SoundCounts.{CountsFine}
 
 pub record IoapicFine (r : RegistryPart) (part : IoapicPart) : Type 0 where
   pub entries : length part.entries ≡ 24
-  pub holds : HoldsStand r part.holds 24 pins.Ioapic
+  pub holds : HoldsStand r part.holds 24 Pin.Ioapic
 
 number_set : (xs : List LocalApic) (n m : ℕ) (v d : LocalApic) → v.number ≡ m → d.number ≡ m → (unwrap_or (slice_get (slice_set xs n v) n) d).number ≡ m
 number_set [] n m v d e f = f
@@ -23,7 +17,7 @@ module _ (r : RegistryPart) (shape : Shape) (bound : ℕ) where
   Fine Registry v = v ≡ r
   Fine Counters v = CountsFine r shape.counters v
   Fine Tick v = v.pending ≤ bound
-  Fine Pic v = HoldsStand r v.holds 16 pins.Pic
+  Fine Pic v = HoldsStand r v.holds 16 Pin.Pic
   Fine Ioapic v = IoapicFine r v
   Fine (Lapic n) v = v.number ≡ n
 

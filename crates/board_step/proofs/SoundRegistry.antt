@@ -1,18 +1,6 @@
 -- What a sound registry tells of triggers, of signalled counters and of pins.
-use Rattle.board_step.proofs.Basics.{◌≡◌, ℕ, ◌<◌, Bool, true, false, true≢false, cond, ◌&&◌, ◌||◌, nat_eq, if◌then◌else◌, List, [], ◌∷◌, map, filter, All, Some, None, refl, sym, ap, subst, ◌∙◌, IsTrue, filter_map, find, list_any, cons_option, first_so, second_so, unsigned_Decides, Option, All-head, All-tail}
-use Rattle.board_step.proofs.Types.pins
-use Rattle.board_step.proofs.Types.{Pin, MsiWord, Source, Resample, Shape, Irqfd, Watch, Row, TriggerWord}
-use Rattle.board_step.proofs.Chips.{has_trigger, resamples, of_trigger, has_resampler, resample_of, resampled, watched, has_counter, Table, table_of, targets_of, refusal_of, has_pin, gsi_of}
-use Rattle.board_step.proofs.Plans.{RegistryPart, trigger_of, IsSoundTable, IsSoundRegistry}
-use Rattle.board_step.proofs.Calls.{RegistrationsFit, is_trigger, is_counter, has_resample, is_signalled}
-use Rattle.std.specs.Prelude.{option_map}
+use Rattle.board_step.proofs.Basics.{◌≡◌, ℕ, ◌<◌, Bool, true, false, true≢false, cond, ◌&&◌, ◌||◌, nat_eq, if◌then◌else◌, List, [], ◌∷◌, map, filter, All, Some, None, refl, sym, ap, subst, ◌∙◌, IsTrue, filter_map, find, list_any, cons_option, first_so, second_so, unsigned_Decides, Option, All-head, All-tail, Pin, MsiWord, Source, Resample, Shape, Irqfd, Watch, Row, TriggerWord, has_trigger, resamples, of_trigger, has_resampler, resample_of, resampled, watched, has_counter, Table, table_of, targets_of, refusal_of, has_pin, gsi_of, RegistryPart, trigger_of, IsSoundTable, IsSoundRegistry, RegistrationsFit, is_trigger, is_counter, has_resample, is_signalled, option_map, is_below, is_route_of, is_same_pin as is_same, sound_of, is_same-some, gsi_of_pin, pin_of_gsi, HasResampler, AreDistinct}
 use borrow.Author.Tests.{ltb-true}
-use Rattle.route_table.specs.Words.{is_below, is_route_of}
-use Rattle.route_table.specs.Rows.{is_same}
-use Rattle.route_table.proofs.Sound.{sound_of}
-use Rattle.route_table.proofs.TableLaws.{is_same-some}
-use Rattle.route_table.proofs.Given.{gsi_of_pin, pin_of_gsi}
-use Rattle.board_step.specs.Sound.{HasResampler, AreDistinct}
 use Rattle.board_step.proofs.SoundCounts.{NoTriggers}
 use Rattle.board_step.proofs.SoundSends.{MayHold}
 
@@ -136,11 +124,11 @@ same_some : (o : Option ℕ) (n : ℕ) → o ≡ Some n → is_same o (Some n) �
 same_some o n e = ap (λ p. is_same p (Some n)) e ∙ is_same-some n
 
 -- the pins of a GSI with a resampler are those of one
-pub pic_resamples : (r : RegistryPart) → IsMade r.table → (gsi pin : ℕ) → (targets_of r.table gsi).pic ≡ Some pin → IsTrue (has_resampler r.irqfds gsi) → HasResampler r (pins.Pic pin)
-pic_resamples r made gsi pin at on = record { gsi = gsi; named = gsi_of_target r.table made (pins.Pic pin) gsi (same_some (targets_of r.table gsi).pic pin at); resamples = on }
+pub pic_resamples : (r : RegistryPart) → IsMade r.table → (gsi pin : ℕ) → (targets_of r.table gsi).pic ≡ Some pin → IsTrue (has_resampler r.irqfds gsi) → HasResampler r (Pin.Pic pin)
+pic_resamples r made gsi pin at on = record { gsi = gsi; named = gsi_of_target r.table made (Pin.Pic pin) gsi (same_some (targets_of r.table gsi).pic pin at); resamples = on }
 
-pub ioapic_resamples : (r : RegistryPart) → IsMade r.table → (gsi pin : ℕ) → (targets_of r.table gsi).ioapic ≡ Some pin → IsTrue (has_resampler r.irqfds gsi) → HasResampler r (pins.Ioapic pin)
-ioapic_resamples r made gsi pin at on = record { gsi = gsi; named = gsi_of_target r.table made (pins.Ioapic pin) gsi (same_some (targets_of r.table gsi).ioapic pin at); resamples = on }
+pub ioapic_resamples : (r : RegistryPart) → IsMade r.table → (gsi pin : ℕ) → (targets_of r.table gsi).ioapic ≡ Some pin → IsTrue (has_resampler r.irqfds gsi) → HasResampler r (Pin.Ioapic pin)
+ioapic_resamples r made gsi pin at on = record { gsi = gsi; named = gsi_of_target r.table made (Pin.Ioapic pin) gsi (same_some (targets_of r.table gsi).ioapic pin at); resamples = on }
 
 -- a source may hold the targets of a GSI, which has a resampler where the source is one
 pub may_hold : (r : RegistryPart) → IsSoundTable r.table → (gsi : ℕ) (source : Source) → (source ≡ Resample → IsTrue (has_resampler r.irqfds gsi)) → MayHold r (targets_of r.table gsi) source

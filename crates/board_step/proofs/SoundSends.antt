@@ -1,10 +1,5 @@
 -- Which pins a source may hold, and that a message leaves the number of a local APIC.
-use Rattle.board_step.proofs.Basics.{◌≡◌, ℕ, ◌<◌, true, false, not, nat_lt, if◌then◌else◌, Some, refl}
-use Rattle.board_step.proofs.Types.pins
-use Rattle.board_step.proofs.Types.{Message, Source, Resample, Targets}
-use Rattle.board_step.proofs.Chips.{LocalApic, is_enabled, is_nmi, accepted, with_error, with_request}
-use Rattle.board_step.proofs.Plans.{RegistryPart}
-use Rattle.board_step.specs.Sound.{HasResampler}
+use Rattle.board_step.proofs.Basics.{◌≡◌, ℕ, ◌<◌, true, false, not, nat_lt, if◌then◌else◌, Some, refl, Message, Source, Resample, Targets, LocalApic, is_enabled, is_nmi, accepted, with_error, with_request, RegistryPart, HasResampler, Pin}
 
 -- a message leaves the number
 pub accepted_number : (a : LocalApic) (m : Message) → (accepted a m).number ≡ a.number
@@ -18,5 +13,5 @@ accepted_number a m = elim (is_nmi m.mode) as (λ t. (if t then record a { nmi =
 
 -- pins that a source may hold: they are there, and where it is a resampler their GSI has one
 pub record MayHold (r : RegistryPart) (targets : Targets) (source : Source) : Type 0 where
-  pub pic : (pin : ℕ) → targets.pic ≡ Some pin → (pin < 16) × (source ≡ Resample → HasResampler r (pins.Pic pin))
-  pub ioapic : (pin : ℕ) → targets.ioapic ≡ Some pin → (pin < 24) × (source ≡ Resample → HasResampler r (pins.Ioapic pin))
+  pub pic : (pin : ℕ) → targets.pic ≡ Some pin → (pin < 16) × (source ≡ Resample → HasResampler r (Pin.Pic pin))
+  pub ioapic : (pin : ℕ) → targets.ioapic ≡ Some pin → (pin < 24) × (source ≡ Resample → HasResampler r (Pin.Ioapic pin))

@@ -1,34 +1,18 @@
 -- A step from a sound board leads to a sound board.
-use Rattle.board_step.proofs.Basics.{◌≡◌, ℕ, ◌+◌, ◌<◌, ◌≤◌, Bool, true, false, All, ◌&&◌, nat_eq, nat_le, if◌then◌else◌, List, [], ◌∷◌, length, Some, None, refl, sym, subst, ◌∙◌, arith, Option, All-head, All-tail}
-use Rattle.board_step.proofs.Types.parts
-use Rattle.board_step.proofs.Types.{first_of, Call, Assign, Deassign, Reroute, Attach, Detach, Unwatch, Caller, Entry, Calls, Publications, Shape, TickState}
-use Rattle.board_step.proofs.Chips.{ticked, tick_injects}
-use Rattle.board_step.proofs.Plans.{RegistryPart, Routing, routing_of_registry, Board, the_reply, Wishes, run}
-use Rattle.board_step.proofs.Calls.{InLimits, range_reasons, tick_or_hold, number_of, io_row, plan_in_range}
-use Rattle.std.proofs.Common.{IfSome}
-use Rattle.irq_base.specs.declared.call.Call.TheVariants.{Watch, Tick}
-use Rattle.irq_base.specs.declared.refusal.Refusal.TheVariants.{NoGsi, NoCounter, BadRange, ChipAddress}
-use Rattle.board_model.proofs.Staying.{frame_stays}
-use Rattle.board_step.specs.Laws.{IsTyped, StepsKeepSound, HistoriesKeepSound}
-use Rattle.board_step.specs.History.{opening, Leads}
+use Rattle.board_step.proofs.Walks.{Holds, is_plain}
+use Rattle.board_step.proofs.Basics.{◌≡◌, ℕ, ◌+◌, ◌<◌, ◌≤◌, Bool, true, false, All, ◌&&◌, nat_eq, nat_le, if◌then◌else◌, List, [], ◌∷◌, length, Some, None, refl, sym, subst, ◌∙◌, arith, Option, All-head, All-tail, first_of, Call, Assign, Deassign, Reroute, Attach, Detach, Unwatch, Caller, Entry, Calls, Publications, Shape, TickState, ticked, tick_injects, RegistryPart, Routing, routing_of_registry, Board, the_reply, Wishes, run, InLimits, range_reasons, tick_or_hold, number_of, io_row, plan_in_range, IfSome, WatchCall as Watch, TickCall as Tick, NoGsi, NoCounter, BadRange, ChipAddress, frame_stays, IsTyped, StepsKeepSound, HistoriesKeepSound, opening, Leads, bad_gsi, bad_counter, bad_resample, bad_ioevent, is_chip_address, would_publish, plan_on, with_counts, IsSound, no_reason, Part}
 use Rattle.board_step.proofs.SoundOpening.{opening_is_sound}
-use Rattle.board_calls.specs.Refusals.{bad_gsi, bad_counter, bad_resample, bad_ioevent, is_chip_address}
-use Rattle.board_step.specs.Step.{would_publish, plan_on, with_counts}
-use Rattle.board_step.specs.Sound.{IsSound}
 use Rattle.board_step.proofs.SoundCounts.{CountsFine}
 use Rattle.board_step.proofs.SoundPlans.{Each, each_with}
-use Rattle.board_step.proofs.Walk.{Holds}
-use Rattle.board_step.proofs.WalkCalls.{is_plain}
 use Rattle.board_step.proofs.SoundRegistry.{RegistryFine}
 use Rattle.board_step.proofs.SoundCalls.{sound, sound_plain, sound_tick}
 use Rattle.board_step.proofs.SoundChanges.{Whole, kept_whole, unless_whole, less_of, attach_whole, detach_whole, watch_whole, unwatch_whole, assign_whole}
 use Rattle.board_step.proofs.SoundLeaving.{deassign_whole, reroute_whole}
-use Rattle.route_table.proofs.Sound.{no_reason}
 
 -- ---- a tick more may be pending
 
 wider : (r : RegistryPart) (shape : Shape) (low high : ℕ) (b : Board) → low ≤ high → Each r shape low b → Each r shape high b
-wider r shape low high b more each parts.Tick = let few : b.tick.pending ≤ low = each parts.Tick in omega (arith, few, more)
+wider r shape low high b more each Part.Tick = let few : b.tick.pending ≤ low = each Part.Tick in omega (arith, few, more)
 wider r shape low high b more each part = each part
 
 ticked_low : (s : TickState) (bound : ℕ) → s.pending ≤ bound → (ticked s).pending ≤ bound + 1
@@ -77,7 +61,7 @@ module _ (b : Board) (ws : Wishes) (fine : RegistryFine b.shape b.registry) (eac
   in_range n (Unwatch counter gsi) typed none = unwatch_whole b.shape bound b ws whole counter gsi
   in_range n Tick typed none =
       kept_whole b.shape bound b.registry (tick_or_hold routing b.shape (ticked b.tick) (tick_injects b.tick)) (record b { tick = ticked b.tick }) ws fine
-      (tick_or_hold_keeps (ticked b.tick) (tick_injects b.tick)) (each_with b.registry b.shape bound b parts.Tick (ticked b.tick) more (ticked_low b.tick b.length (each parts.Tick)))
+      (tick_or_hold_keeps (ticked b.tick) (tick_injects b.tick)) (each_with b.registry b.shape bound b Part.Tick (ticked b.tick) more (ticked_low b.tick b.length (each Part.Tick)))
   in_range n call typed none = plain n call refl
 
   call_whole : (caller : Caller) (call : Call) → IsTyped call → Whole b.shape bound (run (plan_on b caller call) b ws).board
@@ -97,17 +81,17 @@ sound_counted o t limits w places calls publications = subst IsSound (counts_are
   named = w.fine.named;
   distinct = w.fine.distinct;
   counts = record { number = counts.number; greatest = counts.greatest; triggers = counts.triggers };
-  pending = w.each parts.Tick;
-  lapics = record { places = places; numbers = λ n. w.each (parts.Lapic n) };
-  entries = (w.each parts.Ioapic).entries;
-  pic_holds = w.each parts.Pic;
-  ioapic_holds = (w.each parts.Ioapic).holds;
+  pending = w.each Part.Tick;
+  lapics = record { places = places; numbers = λ n. w.each (Part.Lapic n) };
+  entries = (w.each Part.Ioapic).entries;
+  pic_holds = w.each Part.Pic;
+  ioapic_holds = (w.each Part.Ioapic).holds;
   calls = calls;
   publications = publications;
 })
   where
     counts : CountsFine o.registry o.shape.counters o.counters
-    counts = w.each parts.Counters
+    counts = w.each Part.Counters
 
     counts_are : (t : Bool) → record o { length = o.length + 1; publications = published_by t o.publications } ≡ with_counts t o
     counts_are t = grind arith
@@ -117,12 +101,12 @@ not_spent : (shape : Shape) (now many : ℕ) (t : Bool) → now ≤ shape.calls 
 not_spent shape now many t h1 h2 h3 = grind arith
 
 each_of : (b : Board) → IsSound b → Each b.registry b.shape b.length b
-each_of b s parts.Registry = refl
-each_of b s parts.Counters = record { number = s.counts.number; greatest = s.counts.greatest; triggers = s.counts.triggers }
-each_of b s parts.Tick = s.pending
-each_of b s parts.Pic = s.pic_holds
-each_of b s parts.Ioapic = record { entries = s.entries; holds = s.ioapic_holds }
-each_of b s (parts.Lapic n) = s.lapics.numbers n
+each_of b s Part.Registry = refl
+each_of b s Part.Counters = record { number = s.counts.number; greatest = s.counts.greatest; triggers = s.counts.triggers }
+each_of b s Part.Tick = s.pending
+each_of b s Part.Pic = s.pic_holds
+each_of b s Part.Ioapic = record { entries = s.entries; holds = s.ioapic_holds }
+each_of b s (Part.Lapic n) = s.lapics.numbers n
 
 -- the frame of the board after a call, in its own terms
 record Framed (b o : Board) (t : Bool) (shape : Shape) (now many : ℕ) : Type 0 where

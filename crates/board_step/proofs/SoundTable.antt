@@ -1,22 +1,6 @@
 -- The table of rows that keep the rules is sound where each payload has 32 bits.
-use Rattle.board_step.proofs.Basics.{◌≡◌, ℕ, ◌<◌, ◌^◌, zero, suc, true, false, nat_lt, inl, inr, List, [], ◌∷◌, ◌++◌, length, get_or, replicate, All, Some, None, refl, sym, subst, ◌∙◌, arith, append_assoc, append-nil, length-set, nat_tests, length-replicate, All-nil, All-head, All-tail, All-push, All-append, IsTrue, Option}
-use Rattle.board_step.proofs.Types.{Reason, first_of, Row, Full}
-use Rattle.board_step.proofs.Chips.{refusal_of, table_of, targets_of, default_rows}
-use Rattle.board_step.proofs.Plans.{IsSoundTable}
+use Rattle.board_step.proofs.Basics.{◌≡◌, ℕ, ◌<◌, ◌^◌, zero, suc, true, false, nat_lt, inl, inr, List, [], ◌∷◌, ◌++◌, length, get_or, replicate, All, Some, None, refl, sym, subst, ◌∙◌, arith, append_assoc, append-nil, length-set, nat_tests, length-replicate, All-nil, All-head, All-tail, All-push, All-append, IsTrue, Option, Reason, first_of, Row, Full, refusal_of, table_of, targets_of, default_rows, IsSoundTable, leb_tells, get_or-replicate, get_or_past, PicRow as Pic, IoapicRow as Ioapic, MsiRow as Msi, is_route, gsi_in, pic_in, ioapic_in, msi_in, row_reasons, reasons_after, with_owner, fits_if, word_with, Stands, stands-snoc, no_reason, kept_of, table_in-rows, stands_none, sends_to_routes, pic_rows, ioapic_rows, default_rows-kept, PayloadFits}
 use Rattle.std.proofs.Common.{set}
-use Rattle.std.proofs.lemmas.Bool.Decides.{leb_tells}
-use Rattle.std.proofs.lemmas.List.{get_or-replicate, get_or_past}
-use Rattle.irq_base.specs.declared.call.Row.TheVariants.{Pic, Ioapic, Msi}
-use Rattle.route_table.specs.Words.{is_route}
-use Rattle.route_table.specs.Rows.{gsi_in, pic_in, ioapic_in, msi_in, row_reasons, reasons_after}
-use Rattle.route_table.specs.Standing.{with_owner, fits_if, word_with, Stands}
-use Rattle.route_table.proofs.StandingLaws.{stands-snoc}
-use Rattle.route_table.proofs.Sound.{no_reason, kept_of}
-use Rattle.route_table.proofs.TableLaws.{table_in-rows}
-use Rattle.route_table.proofs.Filled.{stands_none, sends_to_routes}
-use Rattle.route_table.specs.Defaults.{pic_rows, ioapic_rows}
-use Rattle.route_table.proofs.DefaultLaws.{default_rows-kept}
-use Rattle.board_step.specs.Laws.{PayloadFits}
 
 -- words and pins that stand for rows
 record Made (rows : List Row) : Type 0 where

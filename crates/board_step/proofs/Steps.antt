@@ -1,9 +1,5 @@
 -- An entry leads from a board to one board at most.
-use Rattle.board_step.proofs.Basics.{◌≡◌, sym, ap, ◌∙◌}
-use Rattle.board_step.proofs.Types.{Entry}
-use Rattle.board_step.proofs.Plans.{Board}
-use Rattle.board_model.proofs.Showing.{shown_decides}
-use Rattle.board_step.specs.Step.{plan_on, counted, Step}
+use Rattle.board_step.proofs.Basics.{◌≡◌, sym, ap, ◌∙◌, Entry, Board, shown_decides, plan_on, counted, Step}
 
 pub leads_to_one : (b : Board) (e : Entry) (c d : Board) → Step b e c → Step b e d → c ≡ d
 leads_to_one b e c d one other =

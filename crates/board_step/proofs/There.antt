@@ -1,23 +1,5 @@
 -- What an allowed call reaches is there: no local APIC past those of the shape.
-use Rattle.board_step.proofs.Basics.{◌≡◌, ℕ, zero, suc, ◌-◌, ◌<◌, ◌≤◌, Bool, true, false, true≢false, not, ◌&&◌, ◌||◌, nat_eq, nat_lt, if◌then◌else◌, List, [], ◌∷◌, ◌++◌, Some, None, refl, sym, ◌∙◌, arith, Option}
-use Rattle.board_step.proofs.Types.calls
-use Rattle.board_step.proofs.Types.spaces
-use Rattle.board_step.proofs.Types.pins
-use Rattle.board_step.proofs.Types.raises
-use Rattle.board_step.proofs.Types.effects
-use Rattle.board_step.proofs.Types.{greatest_vector, is_allowed, first_of, Call, Caller, Cpu, Space, Pin, Message, MsiWord, Targets, Pic, Ioapic, Lapic, Shape, Raise, Shorthand, TriggerWord}
-use Rattle.board_step.proofs.Chips.{is_port, has_output, cycle, pair_write_to, pair_read_from, raise_of, entry_at, pin_acked, Written, write_to, resend_of, is_taken, LocalApic, store_effect, message_in, tick_injects, ack_injects, rung_by}
-use Rattle.board_step.proofs.Plans.{Board, part_of, pair_of, IoapicPart, ioapic_of, with_ioapic, ◌>>◌, Routing, routing_of_registry}
-use Rattle.board_step.proofs.Calls.{numbers_below, only, reached_by, is_of_one, of_message, of_pin, of_answer, of_other, of_fall, tell_concerned, end_level, acknowledge, board_by, of_marked, of_resend, of_level, of_tick, of_acknowledge, of_acknowledge_each, is_ioapic_address, is_lapic_address, range_reasons, pins_with, pic_pin, cycle_pins, hears_pair, number_of}
-use Rattle.std.proofs.Common.{is_some}
-use Rattle.irq_base.specs.Callers.{is_of_processor}
-use Rattle.lapic.specs.declared.outcome.Effect.{Effect}
-use Rattle.lapic.specs.declared.outcome.Shorthand.TheVariants.{Field, OwnOnly, All, Others}
-use Rattle.board_raise.specs.Send.{reached_by_destination}
-use Rattle.board_raise.specs.ReachLaws.{of_raise}
-use Rattle.board_ack.specs.ReachLaws.{of_gsi}
-use Rattle.board_step.specs.Reach.{of_end, of_counter, of_write, does_inject, of_pair, of_written, of_effect, of_rung, of_ring, of_store, of_load, of_cycle, of_ack, of_call, reach}
-use Rattle.board_step.specs.Publications.{ReachIsThere}
+use Rattle.board_step.proofs.Basics.{◌≡◌, ℕ, zero, suc, ◌-◌, ◌<◌, ◌≤◌, Bool, true, false, true≢false, not, ◌&&◌, ◌||◌, nat_eq, nat_lt, if◌then◌else◌, List, [], ◌∷◌, ◌++◌, Some, None, refl, sym, ◌∙◌, arith, Option, greatest_vector, is_allowed, first_of, Call, Caller, Cpu, Space, Pin, Message, MsiWord, Targets, Pic, Ioapic, Lapic, Shape, Raise, Shorthand, TriggerWord, is_port, has_output, cycle, pair_write_to, pair_read_from, raise_of, entry_at, pin_acked, Written, write_to, resend_of, is_taken, LocalApic, store_effect, message_in, tick_injects, ack_injects, rung_by, Board, part_of, pair_of, IoapicPart, ioapic_of, with_ioapic, ◌>>◌, Routing, routing_of_registry, numbers_below, only, reached_by, is_of_one, of_message, of_pin, of_answer, of_other, of_fall, tell_concerned, end_level, acknowledge, board_by, of_marked, of_resend, of_level, of_tick, of_acknowledge, of_acknowledge_each, is_ioapic_address, is_lapic_address, range_reasons, pins_with, pic_pin, cycle_pins, hears_pair, number_of, is_some, is_of_processor, LapicEffect as Effect, Field, OwnOnly, AllIncluded as All, Others, reached_by_destination, of_raise, of_gsi, of_end, of_counter, of_write, does_inject, of_pair, of_written, of_effect, of_rung, of_ring, of_store, of_load, of_cycle, of_ack, of_call, reach, ReachIsThere, LapicEffect}
 
 -- ---- tests
 
@@ -85,7 +67,7 @@ module _ (n cpus : ℕ) (far : cpus ≤ n) where
   far_ioapic pin = grind arith
 
   far_answer : (answer : Raise) → of_answer answer cpus (Lapic n) ≡ false
-  far_answer (raises.Send message) = far_message message None
+  far_answer (Raise.Send message) = far_message message None
   far_answer _ = refl
 
   far_other : (b : Board) (pin : Option ℕ) (msi : Option MsiWord) → of_other b pin msi cpus (Lapic n) ≡ false
@@ -113,8 +95,8 @@ module _ (routing : Routing) (shape : Shape) (n : ℕ) (far : shape.cpus ≤ n) 
   far_resend (Some message) = far_message n shape.cpus far message None
 
   far_level : (b : Board) (pin : Pin) → of_level routing shape b pin (Lapic n) ≡ false
-  far_level b (pins.Pic pin) = refl
-  far_level b (pins.Ioapic pin) = and_false (entry_at (ioapic_of b.ioapic) pin).level _ (far_resend (resend_of (pin_acked (ioapic_of b.ioapic) pin) pin))
+  far_level b (Pin.Pic pin) = refl
+  far_level b (Pin.Ioapic pin) = and_false (entry_at (ioapic_of b.ioapic) pin).level _ (far_resend (resend_of (pin_acked (ioapic_of b.ioapic) pin) pin))
 
   far_tick : (b : Board) (gsi : Option ℕ) → of_tick routing shape b gsi (Lapic n) ≡ false
   far_tick b None = refl
@@ -166,16 +148,16 @@ module _ (routing : Routing) (shape : Shape) (n : ℕ) (far : shape.cpus ≤ n) 
 
   module _ (m : ℕ) (own : nat_eq m n ≡ false) where
     far_effect : (b : Board) (effect : Effect) → of_effect of_acknowledge_each routing shape b m effect (Lapic n) ≡ false
-    far_effect b effects.Plain = refl
-    far_effect b (effects.Ended vector) = far_end b vector
-    far_effect b (effects.Send ipi) = far_message n shape.cpus far ipi.message (Some (m, ipi.to))
+    far_effect b LapicEffect.Plain = refl
+    far_effect b (LapicEffect.Ended vector) = far_end b vector
+    far_effect b (LapicEffect.Send ipi) = far_message n shape.cpus far ipi.message (Some (m, ipi.to))
 
     far_store : (b : Board) (address len value : ℕ) → of_store of_acknowledge_each routing shape b m address len value (Lapic n) ≡ false
     far_store b address len value =
         if_false (is_ioapic_address address) _ _ (and_false (nat_eq len 4) _ (far_written b.ioapic (write_to (ioapic_of b.ioapic) (address - 0xfec00000) value)))
         (if_false (is_lapic_address address) _ _
         (or_false (nat_eq m n) _ own (and_false (nat_eq len 4) _ (far_effect b (store_effect (part_of b (Lapic m)) (address - 0xfee00000) value))))
-        (far_ring b spaces.Memory address len value))
+        (far_ring b Space.Memory address len value))
 
     far_load : (address : ℕ) → of_load of_acknowledge_each routing shape m address (Lapic n) ≡ false
     far_load address = if_false (is_ioapic_address address) _ _ refl (if_false (is_lapic_address address) _ _ own refl)
@@ -187,20 +169,20 @@ module _ (routing : Routing) (shape : Shape) (n : ℕ) (far : shape.cpus ≤ n) 
   far_release b gsi t = and_false t _ (far_fall n shape.cpus far (routing.targets gsi))
 
   far_call : (b : Board) (m : ℕ) (call : Call) → (is_of_processor call ≡ true → nat_eq m n ≡ false) → of_call of_acknowledge_each routing shape b m call (Lapic n) ≡ false
-  far_call b m (calls.Line gsi line true) own = far_gsi b gsi
-  far_call b m (calls.Line gsi line false) own = far_fall n shape.cpus far (routing.targets gsi)
-  far_call b m (calls.Msi address payload) own = far_message n shape.cpus far (message_in address payload) None
-  far_call b m (calls.Write counter count) own = far_write b (routing.trigger counter) count
-  far_call b m (calls.Assign trigger gsi resample) own = and_false (does_inject of_acknowledge_each routing shape b trigger resample) _ (far_gsi b gsi)
-  far_call b m (calls.Deassign trigger gsi) own = far_release b gsi _
-  far_call b m calls.Tick own = and_false (tick_injects b.tick) _ (far_gsi b shape.tick)
-  far_call b m (calls.PortOut port len value) own = if_false (is_port port) _ _ (far_pair b len (pair_write_to (pair_of b.pic) port value).pin) (far_ring b spaces.Port port len value)
-  far_call b m (calls.PortIn port len) own = if_false (is_port port) _ _ (far_pair b len (pair_read_from (pair_of b.pic) port).pin) refl
-  far_call b m (calls.Store address len value) own = far_store m (own refl) b address len value
-  far_call b m (calls.Load address len) own = far_load m (own refl) address
-  far_call b m calls.Ack own = far_ack m (own refl) b (part_of b (Lapic m))
-  far_call b m calls.Inta own = far_cycle b
-  far_call b m calls.Eoi own = or_false (nat_eq m n) _ (own refl) (far_end b (greatest_vector (part_of b (Lapic m)).isr))
+  far_call b m (Call.Line gsi line true) own = far_gsi b gsi
+  far_call b m (Call.Line gsi line false) own = far_fall n shape.cpus far (routing.targets gsi)
+  far_call b m (Call.Msi address payload) own = far_message n shape.cpus far (message_in address payload) None
+  far_call b m (Call.Write counter count) own = far_write b (routing.trigger counter) count
+  far_call b m (Call.Assign trigger gsi resample) own = and_false (does_inject of_acknowledge_each routing shape b trigger resample) _ (far_gsi b gsi)
+  far_call b m (Call.Deassign trigger gsi) own = far_release b gsi _
+  far_call b m Call.Tick own = and_false (tick_injects b.tick) _ (far_gsi b shape.tick)
+  far_call b m (Call.PortOut port len value) own = if_false (is_port port) _ _ (far_pair b len (pair_write_to (pair_of b.pic) port value).pin) (far_ring b Space.Port port len value)
+  far_call b m (Call.PortIn port len) own = if_false (is_port port) _ _ (far_pair b len (pair_read_from (pair_of b.pic) port).pin) refl
+  far_call b m (Call.Store address len value) own = far_store m (own refl) b address len value
+  far_call b m (Call.Load address len) own = far_load m (own refl) address
+  far_call b m Call.Ack own = far_ack m (own refl) b (part_of b (Lapic m))
+  far_call b m Call.Inta own = far_cycle b
+  far_call b m Call.Eoi own = or_false (nat_eq m n) _ (own refl) (far_end b (greatest_vector (part_of b (Lapic m)).isr))
   far_call b m _ own = refl
 
 -- ---- callers

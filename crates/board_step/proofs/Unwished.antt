@@ -1,20 +1,6 @@
 -- A call of which nothing is wished, with all its events.
-use Rattle.std.proofs.Common.{◌≡◌, ◌≤◌, List, [], ◌∷◌, length, Ok, Err, IfOk, refl, sym, ap, ◌∙◌, subst, arith}
-use Rattle.std.proofs.lemmas.List.{take_all}
+use Rattle.board_step.proofs.Basics.{◌≡◌, ◌≤◌, List, [], ◌∷◌, length, Ok, Err, IfOk, refl, sym, ap, ◌∙◌, subst, arith, take_all, with_told, Call, Caller, Event, Entry, DoneCall as Done, Spent, Board, Outcome, Applied, Ran, UnwishedStep, entry_of, IsSound, outcome_of, counted, Step}
 use Rattle.std.specs.declared.result.Result.{Result}
-use Rattle.irq_base.specs.Room.{with_told}
-use Rattle.irq_base.specs.declared.call.Call.{Call}
-use Rattle.irq_base.specs.declared.call.Caller.{Caller}
-use Rattle.irq_base.specs.declared.event.Event.{Event}
-use Rattle.irq_base.specs.declared.lists.Entry.{Entry}
-use Rattle.irq_base.specs.declared.reply.Done.{Done}
-use Rattle.irq_base.specs.declared.reply.Spent.{Spent}
-use Rattle.board_model.specs.Board.{Board}
-use Rattle.board_model.specs.Run.{Outcome}
-use Rattle.board_step.specs.Applied.{Applied, Ran, UnwishedStep}
-use Rattle.board_step.specs.Bodies.{entry_of}
-use Rattle.board_step.specs.Sound.{IsSound}
-use Rattle.board_step.specs.Step.{outcome_of, counted, Step}
 use Rattle.board_step.proofs.CountingAnswers.{steps_tell_few}
 use Rattle.board_step.proofs.Steps.{leads_to_one}
 

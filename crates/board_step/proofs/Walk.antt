@@ -1,10 +1,5 @@
 -- Properties of plans that hold of a plan where they hold of its parts.
-use Rattle.board_step.proofs.Basics.{◌≡◌, ℕ, Bool, true, false, if◌then◌else◌, List, refl, sym, subst}
-use Rattle.board_step.proofs.Types.{Part}
-use Rattle.board_step.proofs.Plans.{ValueOf, Board, part_of, with_part, Plan, done, look, put, change, ◌>>=◌, ◌>>◌, Wishes, Outcome, run, then_run}
-use Rattle.board_step.proofs.Calls.{Processor, see_each, processors_on}
-use Rattle.board_model.proofs.Sequence.{run-bind}
-use Rattle.board_raise.proofs.SendExactly.{after_seen}
+use Rattle.board_step.proofs.Basics.{◌≡◌, ℕ, Bool, true, false, if◌then◌else◌, List, refl, sym, subst, Part, ValueOf, Board, part_of, with_part, Plan, done, look, put, change, ◌>>=◌, ◌>>◌, Wishes, Outcome, run, then_run, Processor, see_each, processors_on, run-bind, after_seen}
 
 -- such a property, of a plan on a board and under wishes; the boards on which it is asked, and what may be written there
 pub record Walk : Type 1 where

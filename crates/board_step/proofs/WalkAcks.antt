@@ -1,11 +1,5 @@
 -- Acknowledges: what holds of their parts holds of them.
-use Rattle.board_step.proofs.Basics.{ℕ, Bool, true, false, not, nat_eq, if◌then◌else◌, List, [], ◌∷◌, map, Some, None, Option}
-use Rattle.board_step.proofs.Types.pins
-use Rattle.board_step.proofs.Types.parts
-use Rattle.board_step.proofs.Types.{signalled_all, Event, Acked, Resampled, Watched, Pin, Message, Resample, TickSource, Shape, Status}
-use Rattle.board_step.proofs.Chips.{entry_at, pin_acked, resend_of, has_resampler, resampled, resample_events, watched, watch_events, ack_injects, tick_acked, tick_injected}
-use Rattle.board_step.proofs.Plans.{Board, with_part, ioapic_of, with_ioapic, RegistryPart, Routing, TargetAnswer, About, injected, resent, done, say, change, ◌>>◌}
-use Rattle.board_step.proofs.Calls.{send, is_accepted, accept_pin, let_go, inject, inject_tick, inject_next, acknowledge_tick, say_each, signal_each, resample, notify, resample_and_notify, tell_concerned, resend, clear_and_resend, end_level, end_tick, acknowledge, acknowledge_each}
+use Rattle.board_step.proofs.Basics.{ℕ, Bool, true, false, not, nat_eq, if◌then◌else◌, List, [], ◌∷◌, map, Some, None, Option, signalled_all, Event, Acked, Resampled, Watched, Pin, Message, Resample, TickSource, Shape, Status, entry_at, pin_acked, resend_of, has_resampler, resampled, resample_events, watched, watch_events, ack_injects, tick_acked, tick_injected, Board, with_part, ioapic_of, with_ioapic, RegistryPart, Routing, TargetAnswer, About, injected, resent, done, say, change, ◌>>◌, send, is_accepted, accept_pin, let_go, inject, inject_tick, inject_next, acknowledge_tick, say_each, signal_each, resample, notify, resample_and_notify, tell_concerned, resend, clear_and_resend, end_level, end_tick, acknowledge, acknowledge_each, Part}
 use Rattle.board_step.proofs.Walk.{Walk, Holds, Seen, ended, bound, after, either, either_at, looked, written, changed}
 use Rattle.board_step.proofs.WalkSignals.{Shows, Signals, MayRaise, accept_pin_holds, let_go_holds, inject_holds}
 
@@ -15,18 +9,18 @@ module _ (w : Walk) where
   resend_holds cpus s pin there (Some message) = bound w (λ answer. accept_pin pin (is_accepted message answer)) (send cpus message None (resent pin)) (there.sends message None) (λ answer. accept_pin_holds w cpus s pin (is_accepted message answer))
 
   -- a tick is injected
-  pub inject_tick_holds : (routing : Routing) (shape : Shape) → Signals w → MayRaise w (routing.targets shape.tick) TickSource → ((status : Status) (b : Board) → w.Fit b → w.May b parts.Tick (tick_injected b.tick status))
+  pub inject_tick_holds : (routing : Routing) (shape : Shape) → Signals w → MayRaise w (routing.targets shape.tick) TickSource → ((status : Status) (b : Board) → w.Fit b → w.May b Part.Tick (tick_injected b.tick status))
       → (about : Option TargetAnswer → About) → ((pic : Option TargetAnswer) → Shows w shape.cpus (about pic)) → Holds w (inject_tick routing shape about)
   inject_tick_holds routing shape s may frees about there =
-      bound w (λ status. change parts.Tick (λ tick. tick_injected tick status)) (inject shape.cpus (routing.targets shape.tick) TickSource about) (inject_holds w shape.cpus s (routing.targets shape.tick) TickSource may about there)
-      (λ status. changed w parts.Tick (λ tick. tick_injected tick status) (frees status))
+      bound w (λ status. change Part.Tick (λ tick. tick_injected tick status)) (inject shape.cpus (routing.targets shape.tick) TickSource about) (inject_holds w shape.cpus s (routing.targets shape.tick) TickSource may about there)
+      (λ status. changed w Part.Tick (λ tick. tick_injected tick status) (frees status))
 
   -- ---- steps 2 and 3
 
   -- what they need
   pub record Tells : Type 0 where
-    pub resamples : (registry : RegistryPart) (gsi : ℕ) → Seen w parts.Registry registry → Holds w (signal_each (resampled registry.irqfds gsi) (resample_events registry.irqfds gsi))
-    pub notifies : (registry : RegistryPart) (gsi : ℕ) → Seen w parts.Registry registry → Holds w (notify gsi registry)
+    pub resamples : (registry : RegistryPart) (gsi : ℕ) → Seen w Part.Registry registry → Holds w (signal_each (resampled registry.irqfds gsi) (resample_events registry.irqfds gsi))
+    pub notifies : (registry : RegistryPart) (gsi : ℕ) → Seen w Part.Registry registry → Holds w (notify gsi registry)
 
   says_each : (event : ℕ → Event) → ((counter : ℕ) → Holds w (say (event counter))) → (counters : List ℕ) → Holds w (say_each (map event counters))
   says_each event said [] = ended w tt
@@ -34,15 +28,15 @@ module _ (w : Walk) where
 
   -- where counters may be signalled, and the events may be told
   pub tells_by : ((counter : ℕ) → Holds w (say (Resampled counter))) → ((counter : ℕ) → Holds w (say (Watched counter)))
-      → ((registry : RegistryPart) (gsi : ℕ) → Seen w parts.Registry registry → (b : Board) → w.Fit b → w.May b parts.Counters (signalled_all b.counters (resampled registry.irqfds gsi)))
-      → ((registry : RegistryPart) (gsi : ℕ) → Seen w parts.Registry registry → (b : Board) → w.Fit b → w.May b parts.Counters (signalled_all b.counters (watched registry.watches gsi))) → Tells
+      → ((registry : RegistryPart) (gsi : ℕ) → Seen w Part.Registry registry → (b : Board) → w.Fit b → w.May b Part.Counters (signalled_all b.counters (resampled registry.irqfds gsi)))
+      → ((registry : RegistryPart) (gsi : ℕ) → Seen w Part.Registry registry → (b : Board) → w.Fit b → w.May b Part.Counters (signalled_all b.counters (watched registry.watches gsi))) → Tells
   tells_by resampled_said watched_said resamples notifies = record {
-    resamples = λ registry gsi seen. written w parts.Counters _ (λ _. say_each (resample_events registry.irqfds gsi)) (resamples registry gsi seen) (λ _. says_each Resampled resampled_said (resampled registry.irqfds gsi));
-    notifies = λ registry gsi seen. written w parts.Counters _ (λ _. say_each (watch_events registry.watches gsi)) (notifies registry gsi seen) (λ _. says_each Watched watched_said (watched registry.watches gsi));
+    resamples = λ registry gsi seen. written w Part.Counters _ (λ _. say_each (resample_events registry.irqfds gsi)) (resamples registry gsi seen) (λ _. says_each Resampled resampled_said (resampled registry.irqfds gsi));
+    notifies = λ registry gsi seen. written w Part.Counters _ (λ _. say_each (watch_events registry.watches gsi)) (notifies registry gsi seen) (λ _. says_each Watched watched_said (watched registry.watches gsi));
   }
 
   module _ (routing : Routing) (cpus : ℕ) (s : Signals w) (a : Tells) where
-    resample_holds : (gsi : ℕ) (registry : RegistryPart) → Seen w parts.Registry registry → Holds w (resample (routing.targets gsi) gsi registry)
+    resample_holds : (gsi : ℕ) (registry : RegistryPart) → Seen w Part.Registry registry → Holds w (resample (routing.targets gsi) gsi registry)
     resample_holds gsi registry seen =
         let signals = signal_each (resampled registry.irqfds gsi) (resample_events registry.irqfds gsi) in
         elim (has_resampler registry.irqfds gsi) as (λ t. Holds w (if not t then done tt else (let_go (routing.targets gsi) Resample >> signals))) [
@@ -52,7 +46,7 @@ module _ (w : Walk) where
 
     told_holds : (gsi : ℕ) → Holds w (resample_and_notify routing gsi)
     told_holds gsi =
-        looked w parts.Registry _ (λ registry seen. looked w parts.Counters _ (λ counts _. looked w parts.Tick _ (λ tick _. looked w parts.Pic _ (λ pic _. looked w parts.Ioapic _ (λ ioapic _.
+        looked w Part.Registry _ (λ registry seen. looked w Part.Counters _ (λ counts _. looked w Part.Tick _ (λ tick _. looked w Part.Pic _ (λ pic _. looked w Part.Ioapic _ (λ ioapic _.
         after w (resample (routing.targets gsi) gsi registry) (notify gsi registry) (resample_holds gsi registry seen) (a.notifies registry gsi seen))))))
 
     pub tell_holds : (gsi : Option ℕ) → Holds w (tell_concerned routing gsi)
@@ -61,19 +55,19 @@ module _ (w : Walk) where
 
   -- ---- steps 4 and 5
 
-  pub end_level_holds : (cpus : ℕ) → Signals w → ((pin : ℕ) → Shows w cpus (resent pin)) → ((pin : ℕ) (b : Board) → w.Fit b → w.May b parts.Ioapic (with_ioapic b.ioapic (pin_acked (ioapic_of b.ioapic) pin))) → (pin : Pin) → Holds w (end_level cpus pin)
-  end_level_holds cpus s resends clears (pins.Pic pin) = ended w tt
-  end_level_holds cpus s resends clears (pins.Ioapic pin) = λ b ws fit. w.looks parts.Ioapic (λ part. if (entry_at (ioapic_of part) pin).level then clear_and_resend cpus pin part else done tt) b ws
+  pub end_level_holds : (cpus : ℕ) → Signals w → ((pin : ℕ) → Shows w cpus (resent pin)) → ((pin : ℕ) (b : Board) → w.Fit b → w.May b Part.Ioapic (with_ioapic b.ioapic (pin_acked (ioapic_of b.ioapic) pin))) → (pin : Pin) → Holds w (end_level cpus pin)
+  end_level_holds cpus s resends clears (Pin.Pic pin) = ended w tt
+  end_level_holds cpus s resends clears (Pin.Ioapic pin) = λ b ws fit. w.looks Part.Ioapic (λ part. if (entry_at (ioapic_of part) pin).level then clear_and_resend cpus pin part else done tt) b ws
       (either_at w (entry_at (ioapic_of b.ioapic) pin).level (clear_and_resend cpus pin b.ioapic) (done tt) b ws
-      (w.puts parts.Ioapic (with_ioapic b.ioapic (pin_acked (ioapic_of b.ioapic) pin)) (resend cpus pin (resend_of (pin_acked (ioapic_of b.ioapic) pin) pin)) b ws fit (clears pin b fit)
-      (resend_holds cpus s pin (resends pin) (resend_of (pin_acked (ioapic_of b.ioapic) pin) pin) (with_part b parts.Ioapic (with_ioapic b.ioapic (pin_acked (ioapic_of b.ioapic) pin))) ws))
+      (w.puts Part.Ioapic (with_ioapic b.ioapic (pin_acked (ioapic_of b.ioapic) pin)) (resend cpus pin (resend_of (pin_acked (ioapic_of b.ioapic) pin) pin)) b ws fit (clears pin b fit)
+      (resend_holds cpus s pin (resends pin) (resend_of (pin_acked (ioapic_of b.ioapic) pin) pin) (with_part b Part.Ioapic (with_ioapic b.ioapic (pin_acked (ioapic_of b.ioapic) pin))) ws))
       (w.ends tt b ws fit))
 
   module _ (routing : Routing) (shape : Shape) where
     -- what they need
     pub record Ends : Type 0 where
       pub levels : (pin : Pin) → Holds w (end_level shape.cpus pin)
-      pub frees : (b : Board) → w.Fit b → w.May b parts.Tick (tick_acked b.tick)
+      pub frees : (b : Board) → w.Fit b → w.May b Part.Tick (tick_acked b.tick)
       pub ticks : Holds w (inject_tick routing shape (λ pic. injected shape.tick pic))
 
     module _ (a : Ends) where
@@ -84,7 +78,7 @@ module _ (w : Walk) where
       pub end_tick_holds : (gsi : Option ℕ) → Holds w (end_tick routing shape gsi)
       end_tick_holds None = ended w tt
       end_tick_holds (Some gsi) = either w (nat_eq gsi shape.tick) (acknowledge_tick routing shape) (done tt)
-          (written w parts.Tick tick_acked (λ tick. inject_next routing shape (ack_injects tick)) a.frees (λ tick. inject_next_holds (ack_injects tick))) (ended w tt)
+          (written w Part.Tick tick_acked (λ tick. inject_next routing shape (ack_injects tick)) a.frees (λ tick. inject_next_holds (ack_injects tick))) (ended w tt)
 
     -- ---- all five
 

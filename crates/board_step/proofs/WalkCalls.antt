@@ -1,21 +1,5 @@
 -- Calls: what holds of their parts holds of them.
-use Rattle.board_step.proofs.Basics.{◌≡◌, ℕ, ◌-◌, Bool, true, false, nat_eq, nat_lt, if◌then◌else◌, List, ◌++◌, ◌∷◌, [], Some, None, refl, Option}
-use Rattle.board_step.proofs.Types.calls
-use Rattle.board_step.proofs.Types.spaces
-use Rattle.board_step.proofs.Types.pins
-use Rattle.board_step.proofs.Types.effects
-use Rattle.board_step.proofs.Types.{greatest_vector, Reason, first_of, Call, Space, Rang, Pin, Row, Line, Resample, Message, Refusal, Shorthand, Reply, Signal, Done, Count, Empty, Removed, Value, Exit, Vector, Extint, Nmi, Ended, Nothing, Held, Refused, Registry, Counters, Tick, Pic, Ioapic, Lapic, Shape, Irqfd, IoRow, Pair, LapicEffect, signalled, TickState, TriggerWord}
-use Rattle.board_step.proofs.Chips.irqfds
-use Rattle.board_step.proofs.Chips.ioevents
-use Rattle.board_step.proofs.Chips.watches
-use Rattle.board_step.proofs.Chips.{is_port, pair_write_to, pair_read_from, has_output, cycle, write_to, resend_of, store_to, store_effect, giveable_of, given, without_service, message_in, what_is_read, taken, count_of, rung_by, in_mode, table_of, PinHolds}
-use Rattle.board_step.proofs.Plans.{Board, part_of, with_part, RegistryPart, Routing, PicPart, IoapicPart, pair_of, ioapic_of, with_pair, with_ioapic, TargetAnswer, injected, ipi, the_reply, Plan, done, put, say, change, reply, ◌>>◌, Wishes}
-use Rattle.board_step.proofs.Calls.{send, raise, lowered_status, inject_tick, resend, acknowledge_each, write_reasons, assign_reasons, attach_reasons, detach_reasons, watch_reasons, unwatch_reasons, is_ioapic_address, is_lapic_address, unless_refused, line_set, message_sent, source_of, trigger_written, write, read_reply, take, inject_count, assign, was_last_resampler, release, deassigned, deassign, kept_holds, reroute, attach, detach, watch, unwatch, tick_or_hold, pins_with, end_vector, ended_reply, end_of_interrupt, pic_pin, cycle_pins, cycle_made, inta, given_reply, give, hears_pair, give_of_pair, take_nmi, next_interrupt, pair_written, pair_write, pair_gave, pair_read, resend_written, ioapic_written, ioapic_store, ioapic_load, store_effects, lapic_stored, lapic_store, lapic_load, ring_counter, rung, ring, port_out, port_in, store, load, plan_in_range}
-use Rattle.std.proofs.Common.{slice_index, is_some}
-use Rattle.ioapic_82093aa.specs.Pins.{read_from}
-use Rattle.lapic.specs.Offsets.{load_of}
-use Rattle.board_calls.specs.Registrations.{count_written}
-use Rattle.board_calls.specs.Ticks.{tick_mode}
+use Rattle.board_step.proofs.Basics.{◌≡◌, ℕ, ◌-◌, Bool, true, false, nat_eq, nat_lt, if◌then◌else◌, List, ◌++◌, ◌∷◌, [], Some, None, refl, Option, greatest_vector, Reason, first_of, Call, Space, Rang, Pin, Row, Line, Resample, Message, Refusal, Shorthand, Reply, Signal, Done, Count, Empty, Removed, Value, Exit, Vector, Extint, Nmi, Ended, Nothing, Held, Refused, Registry, Counters, Tick, Pic, Ioapic, Lapic, Shape, Irqfd, IoRow, Pair, LapicEffect, signalled, TickState, TriggerWord, is_port, pair_write_to, pair_read_from, has_output, cycle, write_to, resend_of, store_to, store_effect, giveable_of, given, without_service, message_in, what_is_read, taken, written as count_of, rung_by, in_mode, table_of, Holds as PinHolds, Board, part_of, with_part, RegistryPart, Routing, PicPart, IoapicPart, pair_of, ioapic_of, with_pair, with_ioapic, TargetAnswer, injected, ipi, the_reply, Plan, done, put, say, change, reply, ◌>>◌, Wishes, send, raise, lowered_status, inject_tick, resend, acknowledge_each, write_reasons, assign_reasons, attach_reasons, detach_reasons, watch_reasons, unwatch_reasons, is_ioapic_address, is_lapic_address, unless_refused, line_set, message_sent, source_of, trigger_written, write, read_reply, take, inject_count, assign, was_last_resampler, release, deassigned, deassign, kept_holds, reroute, attach, detach, watch, unwatch, tick_or_hold, pins_with, end_vector, ended_reply, end_of_interrupt, pic_pin, cycle_pins, cycle_made, inta, given_reply, give, hears_pair, give_of_pair, take_nmi, next_interrupt, pair_written, pair_write, pair_gave, pair_read, resend_written, ioapic_written, ioapic_store, ioapic_load, store_effects, lapic_stored, lapic_store, lapic_load, ring_counter, rung, ring, port_out, port_in, store, load, plan_in_range, slice_index, is_some, read_from, load_of, count_written, tick_mode, named_row, with_row, without_row, without_ioevent, with_watch, without_watch}
 use Rattle.board_step.proofs.Walk.{Walk, Holds, ended, bound, after, either, either_at, looked, written, changed}
 use Rattle.board_step.proofs.WalkSignals.{Shows, Signals, MayRaise, let_go_holds, lower_holds, raise_holds, inject_only}
 
@@ -26,18 +10,18 @@ is_signal _ = false
 
 -- the calls that leave the registry, but for a tick that falls
 abbrev pub is_plain : Call → Bool
-is_plain (calls.Line gsi line high) = true
-is_plain (calls.Msi address payload) = true
-is_plain (calls.Write counter count) = true
-is_plain (calls.Take counter) = true
-is_plain (calls.TickMode reinject) = true
-is_plain (calls.PortOut port len value) = true
-is_plain (calls.PortIn port len) = true
-is_plain (calls.Store address len value) = true
-is_plain (calls.Load address len) = true
-is_plain calls.Ack = true
-is_plain calls.Inta = true
-is_plain calls.Eoi = true
+is_plain (Call.Line gsi line high) = true
+is_plain (Call.Msi address payload) = true
+is_plain (Call.Write counter count) = true
+is_plain (Call.Take counter) = true
+is_plain (Call.TickMode reinject) = true
+is_plain (Call.PortOut port len value) = true
+is_plain (Call.PortIn port len) = true
+is_plain (Call.Store address len value) = true
+is_plain (Call.Load address len) = true
+is_plain Call.Ack = true
+is_plain Call.Inta = true
+is_plain Call.Eoi = true
 is_plain _ = false
 
 module _ (w : Walk) (routing : Routing) (shape : Shape) where
@@ -140,9 +124,9 @@ module _ (w : Walk) (routing : Routing) (shape : Shape) where
         (answers_at Done refl))
 
     effects_hold : (n : ℕ) (effect : LapicEffect) → Holds w (store_effects routing shape n effect)
-    effects_hold n effects.Plain = ended w tt
-    effects_hold n (effects.Ended vector) = vector_holds vector
-    effects_hold n (effects.Send message) = bound w (λ answer. done tt) (send shape.cpus message.message (Some (n, message.to)) ipi) (a.ipis message.message (Some (n, message.to))) (λ _. ended w tt)
+    effects_hold n LapicEffect.Plain = ended w tt
+    effects_hold n (LapicEffect.Ended vector) = vector_holds vector
+    effects_hold n (LapicEffect.Send message) = bound w (λ answer. done tt) (send shape.cpus message.message (Some (n, message.to)) ipi) (a.ipis message.message (Some (n, message.to))) (λ _. ended w tt)
 
     pub lapic_store_holds : (n offset len value : ℕ) → Holds w (lapic_store routing shape n offset len value)
     lapic_store_holds n offset len value = λ b ws fit.
@@ -162,15 +146,15 @@ module _ (w : Walk) (routing : Routing) (shape : Shape) where
       ring_holds space address len value = looked w Registry (λ registry. rung routing shape (rung_by registry.ioevents space address len value)) (λ registry _. rings (rung_by registry.ioevents space address len value))
 
       pub port_out_holds : (port len value : ℕ) → Holds w (port_out routing shape port len value)
-      port_out_holds port len value = either w (is_port port) (pair_write routing shape port len value) (ring routing shape spaces.Port port len value) (pair_write_holds port len value) (ring_holds spaces.Port port len value)
+      port_out_holds port len value = either w (is_port port) (pair_write routing shape port len value) (ring routing shape Space.Port port len value) (pair_write_holds port len value) (ring_holds Space.Port port len value)
 
       pub store_holds : (n address len value : ℕ) → Holds w (store routing shape n address len value)
       store_holds n address len value =
           let chip = ioapic_store shape (address - 0xfec00000) len value in
           let own = lapic_store routing shape n (address - 0xfee00000) len value in
-          let other = ring routing shape spaces.Memory address len value in
+          let other = ring routing shape Space.Memory address len value in
           either w (is_ioapic_address address) chip (if is_lapic_address address then own else other) (ioapic_store_holds (address - 0xfec00000) len value)
-          (either w (is_lapic_address address) own other (lapic_store_holds n (address - 0xfee00000) len value) (ring_holds spaces.Memory address len value))
+          (either w (is_lapic_address address) own other (lapic_store_holds n (address - 0xfee00000) len value) (ring_holds Space.Memory address len value))
 
     pub port_in_holds : (port len : ℕ) → Holds w (port_in routing shape port len)
     port_in_holds port len = either w (is_port port) (pair_read routing shape port len) (reply Exit) (pair_read_holds port len) (a.replies Exit refl)
@@ -280,18 +264,18 @@ module _ (w : Walk) (routing : Routing) (shape : Shape) where
       attach_holds row = looked w Registry _ (λ r _. registered (record r { ioevents = r.ioevents ++ row ∷ [] }) (attach_reasons r row))
 
       pub detach_holds : (row : IoRow) → Holds w (detach row)
-      detach_holds row = looked w Registry _ (λ r _. registered (record r { ioevents = ioevents.without_row r.ioevents row }) (detach_reasons r row))
+      detach_holds row = looked w Registry _ (λ r _. registered (record r { ioevents = without_ioevent r.ioevents row }) (detach_reasons r row))
 
       pub watch_holds : (counter gsi : ℕ) → Holds w (watch counter gsi)
-      watch_holds counter gsi = looked w Registry _ (λ r _. registered (record r { watches = watches.with_row r.watches counter gsi }) (watch_reasons r counter gsi))
+      watch_holds counter gsi = looked w Registry _ (λ r _. registered (record r { watches = with_watch r.watches counter gsi }) (watch_reasons r counter gsi))
 
       pub unwatch_holds : (counter gsi : ℕ) → Holds w (unwatch counter gsi)
-      unwatch_holds counter gsi = looked w Registry _ (λ r _. registered (record r { watches = watches.without_row r.watches counter gsi }) (unwatch_reasons r counter gsi))
+      unwatch_holds counter gsi = looked w Registry _ (λ r _. registered (record r { watches = without_watch r.watches counter gsi }) (unwatch_reasons r counter gsi))
 
       pub assign_holds : (trigger gsi : ℕ) (resample : Option ℕ) → ((counts : List ℕ) (b : Board) → w.Fit b → w.May b Counters (taken counts trigger)) → ((injects : Bool) → Holds w (inject_count routing shape gsi resample injects))
           → Holds w (assign routing shape trigger gsi resample)
       assign_holds trigger gsi resample takes counts_inject = looked w Registry _ (λ r _. looked w Counters _ (λ counts _.
-          let v = record r { irqfds = irqfds.with_row r.irqfds trigger gsi resample } in
+          let v = record r { irqfds = with_row r.irqfds trigger gsi resample } in
           let injects = nat_lt 0 (slice_index counts trigger) in
           let last = inject_count routing shape gsi resample injects >> reply Done in
           unless_holds plain (first_of (assign_reasons r trigger resample)) (put Registry v (put Counters (taken counts trigger) last)) (λ b ws fit.
@@ -304,24 +288,24 @@ module _ (w : Walk) (routing : Routing) (shape : Shape) where
       release_holds signals gsi false = ended w tt
 
       pub deassign_holds : Signals w → (trigger gsi : ℕ) → Holds w (deassign routing trigger gsi)
-      deassign_holds signals trigger gsi = looked w Registry _ (λ r _. of_row r (irqfds.named_row r.irqfds trigger gsi))
+      deassign_holds signals trigger gsi = looked w Registry _ (λ r _. of_row r (named_row r.irqfds trigger gsi))
         where
           of_row : (r : RegistryPart) (row : Option Irqfd) → Holds w (deassigned routing r trigger gsi row)
           of_row r None = plain (Removed 0) refl
           of_row r (Some row) =
-              let v = record r { irqfds = irqfds.without_row r.irqfds trigger gsi } in
-              let m = release routing gsi (was_last_resampler row (irqfds.without_row r.irqfds trigger gsi)) in
+              let v = record r { irqfds = without_row r.irqfds trigger gsi } in
+              let m = release routing gsi (was_last_resampler row (without_row r.irqfds trigger gsi)) in
               λ b ws fit. w.puts Registry v (m >> reply (Removed 1)) b ws fit (may v b fit)
-              (after w m (reply (Removed 1)) (release_holds signals gsi (was_last_resampler row (irqfds.without_row r.irqfds trigger gsi))) (plain (Removed 1) refl) (with_part b Registry v) ws)
+              (after w m (reply (Removed 1)) (release_holds signals gsi (was_last_resampler row (without_row r.irqfds trigger gsi))) (plain (Removed 1) refl) (with_part b Registry v) ws)
 
       pub reroute_holds : ((holds : PinHolds) (b : Board) → w.Fit b → w.May b Pic (record b.pic { holds = holds })) → ((holds : PinHolds) (b : Board) → w.Fit b → w.May b Ioapic (record b.ioapic { holds = holds })) → (rows : List Row) → Holds w (reroute rows)
       reroute_holds pic ioapic rows = looked w Registry _ (λ r _.
           let v = record r { table = table_of rows } in
-          let pics = change Pic (λ (part : PicPart). record part { holds = kept_holds r.table (table_of rows) pins.Pic part.holds }) in
-          let ioapics = change Ioapic (λ (part : IoapicPart). record part { holds = kept_holds r.table (table_of rows) pins.Ioapic part.holds }) in
+          let pics = change Pic (λ (part : PicPart). record part { holds = kept_holds r.table (table_of rows) Pin.Pic part.holds }) in
+          let ioapics = change Ioapic (λ (part : IoapicPart). record part { holds = kept_holds r.table (table_of rows) Pin.Ioapic part.holds }) in
           λ b ws fit. w.puts Registry v (pics >> (ioapics >> reply Done)) b ws fit (may v b fit)
-          (after w pics (ioapics >> reply Done) (changed w Pic (λ (part : PicPart). record part { holds = kept_holds r.table (table_of rows) pins.Pic part.holds }) (λ b fit. pic (kept_holds r.table (table_of rows) pins.Pic b.pic.holds) b fit))
-          (after w ioapics (reply Done) (changed w Ioapic (λ (part : IoapicPart). record part { holds = kept_holds r.table (table_of rows) pins.Ioapic part.holds }) (λ b fit. ioapic (kept_holds r.table (table_of rows) pins.Ioapic b.ioapic.holds) b fit))
+          (after w pics (ioapics >> reply Done) (changed w Pic (λ (part : PicPart). record part { holds = kept_holds r.table (table_of rows) Pin.Pic part.holds }) (λ b fit. pic (kept_holds r.table (table_of rows) Pin.Pic b.pic.holds) b fit))
+          (after w ioapics (reply Done) (changed w Ioapic (λ (part : IoapicPart). record part { holds = kept_holds r.table (table_of rows) Pin.Ioapic part.holds }) (λ b fit. ioapic (kept_holds r.table (table_of rows) Pin.Ioapic b.ioapic.holds) b fit))
           (plain Done refl)) (with_part b Registry v) ws))
 
   -- ---- the calls that leave the registry, but for a tick that falls
@@ -341,16 +325,16 @@ module _ (w : Walk) (routing : Routing) (shape : Shape) where
     rings_hold = rung_holds a.replied.signals a.rings a.accesses.replies
 
     pub plain_holds : (n : ℕ) (call : Call) → is_plain call ≡ true → Holds w (plan_in_range routing shape n call)
-    plain_holds n (calls.Line gsi line high) is = line_holds a.replied gsi line high
-    plain_holds n (calls.Msi address payload) is = message_holds a.replied address payload
-    plain_holds n (calls.Write counter count) is = write_holds a.replied counter count (routing.trigger counter) refl
-    plain_holds n (calls.Take counter) is = take_holds a.accesses.replies counter (a.takes counter)
-    plain_holds n (calls.TickMode reinject) is = tick_mode_holds a.accesses.replies reinject (a.modes reinject)
-    plain_holds n (calls.PortOut port len value) is = port_out_holds a.accesses rings_hold port len value
-    plain_holds n (calls.PortIn port len) is = port_in_holds a.accesses port len
-    plain_holds n (calls.Store address len value) is = store_holds a.accesses rings_hold n address len value
-    plain_holds n (calls.Load address len) is = load_holds a.accesses n address len
-    plain_holds n calls.Ack is = next_holds a.accesses a.nmis a.gives n
-    plain_holds n calls.Inta is = inta_holds a.accesses
-    plain_holds n calls.Eoi is = eoi_holds a.accesses n
+    plain_holds n (Call.Line gsi line high) is = line_holds a.replied gsi line high
+    plain_holds n (Call.Msi address payload) is = message_holds a.replied address payload
+    plain_holds n (Call.Write counter count) is = write_holds a.replied counter count (routing.trigger counter) refl
+    plain_holds n (Call.Take counter) is = take_holds a.accesses.replies counter (a.takes counter)
+    plain_holds n (Call.TickMode reinject) is = tick_mode_holds a.accesses.replies reinject (a.modes reinject)
+    plain_holds n (Call.PortOut port len value) is = port_out_holds a.accesses rings_hold port len value
+    plain_holds n (Call.PortIn port len) is = port_in_holds a.accesses port len
+    plain_holds n (Call.Store address len value) is = store_holds a.accesses rings_hold n address len value
+    plain_holds n (Call.Load address len) is = load_holds a.accesses n address len
+    plain_holds n Call.Ack is = next_holds a.accesses a.nmis a.gives n
+    plain_holds n Call.Inta is = inta_holds a.accesses
+    plain_holds n Call.Eoi is = eoi_holds a.accesses n
     plain_holds n _ is = cc

@@ -1,9 +1,5 @@
 -- What holds of a board before a call holds after it, where each write keeps it.
-use Rattle.board_step.proofs.Basics.{◌≡◌, ℕ, Bool, false, Some, None, Option}
-use Rattle.board_step.proofs.Types.{greatest_vector, signalled, signalled_all, first_of, Message, Source, Line, TickSource, Registry, Counters, Tick, Pic, Ioapic, Lapic, Shape, Status, Pair, TriggerWord}
-use Rattle.board_step.proofs.Chips.{pin_accepted, pin_acked, write_to, LocalApic, accepted, store_to, giveable_of, given, without_service, taken, count_of, resampled, watched, in_mode, tick_acked, tick_injected}
-use Rattle.board_step.proofs.Plans.{Board, part_of, with_part, ioapic_of, with_pair, with_ioapic, RegistryPart, Routing, TargetAnswer, About, injected, resent, ipi, the_reply, next_wish, later_wishes}
-use Rattle.board_step.proofs.Calls.{show, pic_let_go, ioapic_let_go, inject_tick, write_reasons, source_of}
+use Rattle.board_step.proofs.Basics.{◌≡◌, ℕ, Bool, false, Some, None, Option, greatest_vector, signalled, signalled_all, first_of, Message, Source, Line, TickSource, Registry, Counters, Tick, Pic, Ioapic, Lapic, Shape, Status, Pair, TriggerWord, pin_accepted, pin_acked, write_to, LocalApic, accepted, store_to, giveable_of, given, without_service, taken, written as count_of, resampled, watched, in_mode, tick_acked, tick_injected, Board, part_of, with_part, ioapic_of, with_pair, with_ioapic, RegistryPart, Routing, TargetAnswer, About, injected, resent, ipi, the_reply, next_wish, later_wishes, show, pic_let_go, ioapic_let_go, inject_tick, write_reasons, source_of}
 use Rattle.board_step.proofs.Walk.{Walk, Holds, Seen, kept_by}
 use Rattle.board_step.proofs.WalkSignals.{Shows, Signals, MayRaise, shows_by}
 use Rattle.board_step.proofs.WalkAcks.{Tells, tells_by, Ends, resend_holds, end_level_holds, acks_hold, inject_tick_holds}

@@ -1,10 +1,5 @@
 -- Properties to which it does not matter what is written to a chip or a counter.
-use Rattle.board_step.proofs.Basics.{◌≡◌, ℕ, false, List, Option}
-use Rattle.board_step.proofs.Types.{Rang, Pin, Source, Targets, Reply, Signal, Counters, Pic, Ioapic, Lapic, Shape}
-use Rattle.board_step.proofs.Chips.{LocalApic}
-use Rattle.board_step.proofs.Plans.{Board, PicPart, IoapicPart, Routing, TargetAnswer, About, injected, resent, ipi, the_reply, reply, say, Log}
-use Rattle.board_step.proofs.Calls.{show, lowered_status, acknowledge_each}
-use Rattle.board_model.specs.Run.{silence, both}
+use Rattle.board_step.proofs.Basics.{◌≡◌, ℕ, false, List, Option, Rang, Pin, Source, Targets, Reply, Signal, Counters, Pic, Ioapic, Lapic, Shape, LocalApic, Board, PicPart, IoapicPart, Routing, TargetAnswer, About, injected, resent, ipi, the_reply, reply, say, Log, show, lowered_status, acknowledge_each, silence, both}
 use Rattle.board_step.proofs.Walk.{Walk, Holds, of_relation}
 use Rattle.board_step.proofs.WalkSignals.{Shows, Signals, Chooses, MayRaise, shows_by}
 use Rattle.board_step.proofs.WalkAcks.{resend_holds}

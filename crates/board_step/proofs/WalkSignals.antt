@@ -1,11 +1,5 @@
 -- Sendings and signals: what holds of their parts holds of them.
-use Rattle.board_step.proofs.Basics.set
-use Rattle.board_step.proofs.Basics.{◌≡◌, ℕ, Bool, true, false, not, if◌then◌else◌, List, [], ◌∷◌, Some, None, refl, Option}
-use Rattle.board_step.proofs.Types.raises
-use Rattle.board_step.proofs.Types.{Numbers, Message, MsiWord, Source, Resample, Targets, Pic, Ioapic, Lapic, Cause, Masked, NoProcessor, BadVector, BadMode, Signal, Raise, Shorthand}
-use Rattle.board_step.proofs.Chips.{raise_of, pin_accepted, LocalApic, is_taken, accepted, message_in, pin_outcome}
-use Rattle.board_step.proofs.Plans.{Board, with_part, pair_of, ioapic_of, with_ioapic, Sent, TargetAnswer, nobody, no_effect, stood_already, message_answer, status_of, Heading, About, Plan, done, put, choose, reply, ◌>>=◌, ◌>>◌, reached}
-use Rattle.board_step.proofs.Calls.{Processor, named_by, numbers_of, chosen_of, show, ignore, reached_by, see_each, parted, is_illegal, accept_each, deliver, refuse_vector, send_to, send, processors_on, pic_raised, pic_let_go, pic_answer, raise_pic, ioapic_raised, ioapic_let_go, is_accepted, accept_pin, answer_shown, ioapic_answered, raise_other, raise, let_go_pic, let_go_ioapic, let_go, lowered_status, lower, let_go_after, inject}
+use Rattle.board_step.proofs.Basics.{◌≡◌, ℕ, Bool, true, false, not, if◌then◌else◌, List, [], ◌∷◌, Some, None, refl, Option, Numbers, Message, MsiWord, Source, Resample, Targets, Pic, Ioapic, Lapic, Cause, Masked, NoProcessor, BadVector, BadMode, Signal, Raise, Shorthand, raise_of, pin_accepted, LocalApic, is_taken, accepted, message_in, pin_outcome, Board, with_part, pair_of, ioapic_of, with_ioapic, Sent, TargetAnswer, nobody, no_effect, stood_already, message_answer, status_of, Heading, About, Plan, done, put, choose, reply, ◌>>=◌, ◌>>◌, reached, Processor, named_by, numbers_of, chosen_of, show, ignore, reached_by, see_each, parted, is_illegal, accept_each, deliver, refuse_vector, send_to, send, processors_on, pic_raised, pic_let_go, pic_answer, raise_pic, ioapic_raised, ioapic_let_go, is_accepted, accept_pin, answer_shown, ioapic_answered, raise_other, raise, let_go_pic, let_go_ioapic, let_go, lowered_status, lower, let_go_after, inject, contains}
 use Rattle.board_step.proofs.Walk.{Walk, Holds, Seen, ended, bound, after, either, written, changed}
 
 module _ (w : Walk) where
@@ -43,7 +37,7 @@ module _ (w : Walk) where
     accept_holds : (message : Message) (takers : Numbers) (ps : List Processor) → AreSeen ps → Holds w (accept_each message takers ps)
     accept_holds message takers [] seen = ended w tt
     accept_holds message takers (p ∷ ps) seen =
-        either w (set.contains takers p.number) (put (Lapic p.number) (accepted p.apic message) (accept_each message takers ps)) (accept_each message takers ps)
+        either w (contains takers p.number) (put (Lapic p.number) (accepted p.apic message) (accept_each message takers ps)) (accept_each message takers ps)
         (λ b ws fit. w.puts (Lapic p.number) (accepted p.apic message) (accept_each message takers ps) b ws fit (accepts p.number p.apic message seen.0 b fit)
         (accept_holds message takers ps seen.1 (with_part b (Lapic p.number) (accepted p.apic message)) ws))
         (accept_holds message takers ps seen.1)
@@ -111,9 +105,9 @@ module _ (w : Walk) where
     shown_holds about there other = after w (show about other) (done other) (there.shown other) (ended w other)
 
     answered_holds : (pin : ℕ) (about : About) → Shows cpus about → (raised : Raise) → Holds w (ioapic_answered cpus pin about raised)
-    answered_holds pin about there raises.Masked = shown_holds about there (Some (no_effect Masked))
-    answered_holds pin about there raises.Stood = shown_holds about there (Some stood_already)
-    answered_holds pin about there (raises.Send message) =
+    answered_holds pin about there Raise.Masked = shown_holds about there (Some (no_effect Masked))
+    answered_holds pin about there Raise.Stood = shown_holds about there (Some stood_already)
+    answered_holds pin about there (Raise.Send message) =
         bound w (λ answer. accept_pin pin (is_accepted message answer) >> done (Some answer)) (send cpus message None about) (there.sends message None)
         (λ answer. after w (accept_pin pin (is_accepted message answer)) (done (Some answer)) (accept_pin_holds pin (is_accepted message answer)) (ended w (Some answer)))
 

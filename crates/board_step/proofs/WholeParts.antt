@@ -1,11 +1,5 @@
 -- The board of parts, and the parts of a board.
-use Rattle.board_step.proofs.Basics.{◌≡◌, ℕ, ◌<◌, zero, suc, true, nat_lt, List, [], ◌∷◌, length, map, Some, refl, sym, ap, ◌∙◌, arith, unwrap_or, Option}
-use Rattle.board_step.proofs.Types.{Registry, Counters, Tick, Pic, Ioapic, Lapic, Part}
-use Rattle.board_step.proofs.Chips.{LocalApic, power_on, in_mode}
-use Rattle.board_step.proofs.Plans.{flat, part_in, all_parts}
-use Rattle.std.proofs.Common.{slice_get, is_some}
-use Rattle.board_step.specs.History.{opening_registry, opening_pic, opening_ioapic}
-use Rattle.board_step.specs.Whole.{is_part, BoardHasItsParts, PartsMakeTheirBoard, AllPartsAreWhole, WholePartsAreAll}
+use Rattle.board_step.proofs.Basics.{◌≡◌, ℕ, ◌<◌, zero, suc, true, nat_lt, List, [], ◌∷◌, length, map, Some, refl, sym, ap, ◌∙◌, arith, unwrap_or, Option, Registry, Counters, Tick, Pic, Ioapic, Lapic, Part, LocalApic, power_on, in_mode, flat, part_in, all_parts, slice_get, is_some, opening_registry, opening_pic, opening_ioapic, is_part, BoardHasItsParts, PartsMakeTheirBoard, AllPartsAreWhole, WholePartsAreAll}
 
 -- ---- one part
 

@@ -1,9 +1,5 @@
 -- The choices that a list in code is given.
-use Rattle.board_step.proofs.Basics.set
-use Rattle.board_step.proofs.Basics.{◌≡◌, ◌≤◌, Bool, true, false, ◌||◌, [], ◌∷◌, length, refl, sym, ap, ◌∙◌, if◌then◌else◌, arith, contains-union, contains-empty, same_set, nat_cmp-IsAntisymmetric, nat_cmp, nat_cmp_total}
-use Rattle.board_step.proofs.Types.{Numbers, Event}
-use Rattle.board_step.proofs.Plans.{Sent, is_empty, reached}
-use Rattle.board_step.specs.History.{wish_of, wish_shown}
+use Rattle.board_step.proofs.Basics.{◌≡◌, ◌≤◌, Bool, true, false, ◌||◌, [], ◌∷◌, length, refl, sym, ap, ◌∙◌, if◌then◌else◌, arith, contains-union, contains-empty, same_set, nat_cmp-IsAntisymmetric, nat_cmp, nat_cmp_total, Numbers, Event, Sent, is_empty, reached, wish_of, wish_shown, contains, empty}
 use Rattle.board_step.proofs.Shown.{empty_is, was_empty, wished}
 
 -- nobody is in one of two sets where nobody is in both together
@@ -13,23 +9,23 @@ left_false s t h1 = grind arith
 right_false : (s t : Bool) → (s || t) ≡ false → t ≡ false
 right_false s t h1 = grind arith
 
-no_member : (s : Numbers) → ((n : _) → set.contains s n ≡ false) → s ≡ set.empty
+no_member : (s : Numbers) → ((n : _) → contains s n ≡ false) → s ≡ empty
 no_member s none = same_set nat_cmp_total nat_cmp-IsAntisymmetric _ _ (λ n. none n ∙ sym (contains-empty nat_cmp n))
 
-module _ (s : Sent) (nobody_is : reached s ≡ set.empty) where
-  none : (n : _) → (set.contains s.new n || set.contains s.stood n) ≡ false
-  none n = sym (contains-union nat_cmp_total s.new s.stood n) ∙ ap (λ x. set.contains x n) nobody_is ∙ contains-empty nat_cmp n
+module _ (s : Sent) (nobody_is : reached s ≡ empty) where
+  none : (n : _) → (contains s.new n || contains s.stood n) ≡ false
+  none n = sym (contains-union nat_cmp_total s.new s.stood n) ∙ ap (λ x. contains x n) nobody_is ∙ contains-empty nat_cmp n
 
   -- no choice shows where nobody was reached
   pub unwished : wish_of s ≡ []
   unwished =
-      (λ i. if is_empty (no_member s.new (λ n. left_false (set.contains s.new n) (set.contains s.stood n) (none n)) i) then (if is_empty s.stood then [] else reached s ∷ []) else reached s ∷ [])
+      (λ i. if is_empty (no_member s.new (λ n. left_false (contains s.new n) (contains s.stood n) (none n)) i) then (if is_empty s.stood then [] else reached s ∷ []) else reached s ∷ [])
       ∙ ap (λ t. if t then (if is_empty s.stood then [] else reached s ∷ []) else reached s ∷ []) empty_is
-      ∙ (λ i. if is_empty (no_member s.stood (λ n. right_false (set.contains s.new n) (set.contains s.stood n) (none n)) i) then [] else reached s ∷ [])
+      ∙ (λ i. if is_empty (no_member s.stood (λ n. right_false (contains s.new n) (contains s.stood n) (none n)) i) then [] else reached s ∷ [])
       ∙ ap (λ t. if t then [] else reached s ∷ []) empty_is
 
 -- some choice shows where somebody was reached
-pub somebody : (s : Sent) (n : Numbers) → n ≡ reached s → (n ≡ set.empty → ⊥) → wish_of s ≡ n ∷ []
+pub somebody : (s : Sent) (n : Numbers) → n ≡ reached s → (n ≡ empty → ⊥) → wish_of s ≡ n ∷ []
 somebody s n is never = elim (is_empty (reached s)) as (λ t. is_empty (reached s) ≡ t → wish_of s ≡ n ∷ []) [
   | true ↦ λ none. absurd (never (is ∙ was_empty (reached s) none))
   | false ↦ λ some. wished s some ∙ ap (λ x. x ∷ []) (sym is)

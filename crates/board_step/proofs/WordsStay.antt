@@ -1,16 +1,5 @@
 -- A step that is no publication leaves the published words.
-use Rattle.board_step.proofs.Basics.{◌≡◌, ℕ, Bool, true, false, not, ◌||◌, List, [], ◌∷◌, ◌++◌, refl, sym, ap, ◌∙◌, Some, None, Option}
-use Rattle.board_step.proofs.Types.calls
-use Rattle.board_step.proofs.Types.{first_of, Call, Caller, Entry, Refusal, Irqfd, IoRow, Done, Registry}
-use Rattle.board_step.proofs.Chips.{named_row}
-use Rattle.board_step.proofs.Plans.{Board, published, Routing, routing_of_registry, Plan, reply, ◌>>◌, Wishes, run}
-use Rattle.board_step.proofs.Calls.{range_reasons, attach_reasons, detach_reasons, unless_refused, deassigned, number_of, io_row, plan_in_range}
-use Rattle.std.proofs.Common.{is_some}
-use Rattle.ioevent_set.specs.Rows.{without_row}
-use Rattle.board_model.specs.Plan.{set as put_part}
-use Rattle.board_model.proofs.Staying.{frame_stays}
-use Rattle.board_raise.proofs.Manner.{Manner, registry_stays}
-use Rattle.board_step.specs.Step.{refusal_of, does_publish, publishes_unless, would_publish, plan_on, outcome_of, with_counts, Step}
+use Rattle.board_step.proofs.Basics.{◌≡◌, ℕ, Bool, true, false, not, ◌||◌, List, [], ◌∷◌, ◌++◌, refl, sym, ap, ◌∙◌, Some, None, Option, first_of, Call, Caller, Entry, Refusal, Irqfd, IoRow, Done, Registry, named_row, Board, published, Routing, routing_of_registry, Plan, reply, ◌>>◌, Wishes, run, range_reasons, attach_reasons, detach_reasons, unless_refused, deassigned, number_of, io_row, plan_in_range, is_some, without_ioevent as without_row, set as put_part, frame_stays, Manner, registry_stays, refusal_on as refusal_of, does_publish, publishes_unless, would_publish, plan_on, outcome_of, with_counts, Step}
 use Rattle.board_step.proofs.CallManner.{replies_in, writes_in, refuses_in, call_keeps, or_true}
 use Rattle.board_step.proofs.Refusing.{refuses_first}
 
@@ -53,14 +42,14 @@ module _ (b : Board) (caller : Caller) (ws : Wishes) where
   ioevents_leave refused rows = unless_leaves refused (put_part Registry (record b.registry { ioevents = rows }) >> reply Done) refl
 
   unpublished : (call : Call) → does_publish b call ≡ false → Leaves (plan_on b caller call)
-  unpublished (calls.Reroute rows) never = cc
-  unpublished (calls.Assign trigger gsi resample) never = cc
-  unpublished (calls.Watch counter gsi) never = cc
-  unpublished (calls.Unwatch counter gsi) never = cc
-  unpublished (calls.Deassign trigger gsi) never = unless_leaves (first_of (range_reasons b.shape (calls.Deassign trigger gsi))) _ (none_removed trigger gsi (named_row b.registry.irqfds trigger gsi) never)
-  unpublished (calls.Attach space address len counter want) never = unless_leaves (first_of (range_reasons b.shape (calls.Attach space address len counter want))) (plan_in_range routing b.shape (number_of caller) (calls.Attach space address len counter want))
+  unpublished (Call.Reroute rows) never = cc
+  unpublished (Call.Assign trigger gsi resample) never = cc
+  unpublished (Call.Watch counter gsi) never = cc
+  unpublished (Call.Unwatch counter gsi) never = cc
+  unpublished (Call.Deassign trigger gsi) never = unless_leaves (first_of (range_reasons b.shape (Call.Deassign trigger gsi))) _ (none_removed trigger gsi (named_row b.registry.irqfds trigger gsi) never)
+  unpublished (Call.Attach space address len counter want) never = unless_leaves (first_of (range_reasons b.shape (Call.Attach space address len counter want))) (plan_in_range routing b.shape (number_of caller) (Call.Attach space address len counter want))
       (ioevents_leave (first_of (attach_reasons b.registry (io_row space address len counter want))) (b.registry.ioevents ++ io_row space address len counter want ∷ []))
-  unpublished (calls.Detach space address len counter want) never = unless_leaves (first_of (range_reasons b.shape (calls.Detach space address len counter want))) (plan_in_range routing b.shape (number_of caller) (calls.Detach space address len counter want))
+  unpublished (Call.Detach space address len counter want) never = unless_leaves (first_of (range_reasons b.shape (Call.Detach space address len counter want))) (plan_in_range routing b.shape (number_of caller) (Call.Detach space address len counter want))
       (ioevents_leave (first_of (detach_reasons b.registry (io_row space address len counter want))) (without_row b.registry.ioevents (io_row space address len counter want)))
   unpublished call never = unwritten call refl
 

@@ -1,5 +1,4 @@
-use Rattle.std.proofs.Common.{◌≡◌, false, true≢false, ◌++◌, IsTrue, sym, ap, ◌∙◌, arith}
-use Rattle.board_model.specs.Statuses.{Sent}
+use Rattle.board_step.proofs.Basics.{◌≡◌, false, true≢false, ◌++◌, IsTrue, sym, ap, ◌∙◌, arith, Sent}
 use Rattle.board_step.proofs.Wished.{somebody, unwished}
 use Rattle.board_step.proofs.choices.add_sets.Goals as goal
 

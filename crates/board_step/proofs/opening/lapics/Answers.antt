@@ -1,5 +1,4 @@
-use Rattle.std.proofs.Common.{◌-◌, ◌<◌, length, slice_set, Some, sym, ap, ◌∙◌, subst, arith}
-use Rattle.lapic.specs.Registers.{power_on}
+use Rattle.board_step.proofs.Basics.{◌-◌, ◌<◌, length, slice_set, Some, sym, ap, ◌∙◌, subst, arith, power_on}
 use Rattle.board_step.proofs.OpeningParts.{row_next, length-opening_row}
 use Rattle.board_step.proofs.opening.lapics.Goals as goal
 

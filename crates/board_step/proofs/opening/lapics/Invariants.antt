@@ -1,5 +1,4 @@
-use Rattle.std.proofs.Common.{◌≡◌, ◌-◌}
-use Rattle.board_step.specs.Opening.{opening_row}
+use Rattle.board_step.proofs.Basics.{◌≡◌, ◌-◌, opening_row}
 use Rattle.board_step.proofs.opening.lapics.Given as goal
 
 abbrev pub invariant-loop-n : goal.invariant-loop-n

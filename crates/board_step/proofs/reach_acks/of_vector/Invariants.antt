@@ -1,5 +1,4 @@
-use Rattle.std.proofs.Common.{◌≡◌, ◌≤◌, false}
-use Rattle.board_step.specs.Seen.{is_ended}
+use Rattle.board_step.proofs.Basics.{◌≡◌, ◌≤◌, false, is_ended}
 use Rattle.board_step.proofs.SeenNow.{any_below}
 use Rattle.board_step.proofs.reach_acks.of_vector.Given as goal
 

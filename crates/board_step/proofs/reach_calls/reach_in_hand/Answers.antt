@@ -1,7 +1,4 @@
-use Rattle.std.proofs.Common.{refl, subst}
-use Rattle.irq_base.specs.declared.shape.Part.TheVariants.{Registry, Counters, Tick, Pic, Ioapic}
-use Rattle.board_raise.specs.InHand.{registry_of, pic_of, ioapic_of}
-use Rattle.board_step.specs.Seen.{PartsFit}
+use Rattle.board_step.proofs.Basics.{refl, subst, Registry, Counters, Tick, Pic, Ioapic, registry_of, pic_of, ioapic_at_hand as ioapic_of, PartsFit}
 use Rattle.board_step.proofs.SeenParts.{seen_fits, not_whole, not_here}
 use Rattle.board_step.proofs.reach_calls.reach_in_hand.Goals as goal
 use Rattle.board_step.proofs.reach_calls.reach_in_hand.Goals.{in_default-via-in-Some+in-Some+in-Some+in-Some+in_default, in_default-via-in-Some+in-Some+in-Some+in_default, in_default-via-in-Some+in-Some+in_default, in_default-via-in-Some+in_default, in_default-via-in_default}

@@ -1,5 +1,4 @@
-use Rattle.std.proofs.Common.{sym, ap, ◌∙◌}
-use Rattle.board_step.specs.Seen.{if_of}
+use Rattle.board_step.proofs.Basics.{sym, ap, ◌∙◌, if_of}
 use Rattle.board_step.proofs.SeenRows.{named_is}
 use Rattle.board_step.proofs.reach_registrations.named.Goals as goal
 

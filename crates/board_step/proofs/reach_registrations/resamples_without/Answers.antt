@@ -1,4 +1,4 @@
-use Rattle.std.proofs.Common.{◌∙◌}
+use Rattle.board_step.proofs.Basics.{◌∙◌}
 use Rattle.board_step.proofs.SeenRows.{without_is}
 use Rattle.board_step.proofs.reach_registrations.resamples_without.Goals as goal
 

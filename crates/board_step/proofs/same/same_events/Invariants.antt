@@ -1,4 +1,4 @@
-use Rattle.std.proofs.Common.{◌≡◌, take}
+use Rattle.board_step.proofs.Basics.{◌≡◌, first_items as take}
 use Rattle.board_step.proofs.same.same_events.Given as goal
 
 -- the events before k are equal

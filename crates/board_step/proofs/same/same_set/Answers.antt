@@ -1,5 +1,4 @@
-use Rattle.std.proofs.Common.{sym, ◌∙◌}
-use Rattle.irq_bits.specs.SetLemmas.{same_members-is}
+use Rattle.board_step.proofs.Basics.{sym, ◌∙◌, same_members-is}
 use Rattle.board_step.proofs.same.same_set.Goals as goal
 
 pub returns : goal.returns

@@ -1,8 +1,4 @@
-use Rattle.board_model.specs.Published.{routing_of_words}
-use Rattle.board_model.specs.Run.{run_on}
-use Rattle.board_raise.specs.InHand.{parts_of}
-use Rattle.board_calls.specs.Calls.{number_of, plan_in_range}
-use Rattle.board_calls.proofs.Room.{quiet_tells}
+use Rattle.board_step.proofs.Basics.{routing_of_words, run_on, parts_of, number_of, plan_in_range, quiet_tells}
 use Rattle.board_step.proofs.step.call_in_range.Goals as goal
 
 pub returns-in-Line-clause-does : goal.returns-in-Line-clause-does

@@ -1,8 +1,4 @@
-use Rattle.std.proofs.Common.{[], ◌∷◌, Ok, sym, subst}
-use Rattle.irq_base.specs.declared.reply.Reply.TheVariants.{Refused}
-use Rattle.board_model.specs.Run.{run_on}
-use Rattle.board_raise.specs.InHand.{parts_of}
-use Rattle.board_calls.specs.Told.{TellsOn}
+use Rattle.board_step.proofs.Basics.{[], ◌∷◌, Ok, sym, subst, Refused, run_on, parts_of, TellsOn}
 use Rattle.board_step.proofs.Answered.{told_leads, not_refused, refused_tells}
 use Rattle.board_step.proofs.step.step_on.Goals as goal
 

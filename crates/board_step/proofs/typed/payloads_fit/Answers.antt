@@ -1,8 +1,5 @@
 -- One row more.
-use Rattle.std.proofs.Common.{sym, subst, arith}
-use Rattle.std.proofs.lemmas.List.Elements.{AllWithin-more}
-use Rattle.std.proofs.lemmas.Option.{get_or_from_slice_get}
-use Rattle.board_step.specs.Laws.{PayloadFits}
+use Rattle.board_step.proofs.Basics.{sym, subst, arith, AllWithin-more, get_or_from_slice_get, PayloadFits}
 use Rattle.board_step.proofs.typed.payloads_fit.Goals as goal
 
 pub loop-k-preserved : goal.loop-k-preserved

@@ -1,5 +1,4 @@
-use Rattle.std.specs.List.{AllWithin}
-use Rattle.board_step.specs.Laws.{PayloadFits}
+use Rattle.board_step.proofs.Basics.{AllWithin, PayloadFits}
 use Rattle.board_step.proofs.typed.payloads_fit.Given as goal
 
 -- the payloads of the rows so far

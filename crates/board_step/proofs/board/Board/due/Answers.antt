@@ -1,12 +1,4 @@
-use Rattle.std.proofs.Common.{◌<◌, sym, ap, ◌∙◌, subst}
-use Rattle.std.specs.Prelude.{option_map}
-use Rattle.irq_base.specs.declared.shape.Part.TheVariants.{Lapic}
-use Rattle.board_model.specs.Board.{Board, part_of}
-use Rattle.board_model.specs.Chips.{pair_of}
-use Rattle.board_raise.specs.declared.parts.Parts.{Parts}
-use Rattle.board_raise.specs.declared.parts.PicPart.{PicPart}
-use Rattle.board_raise.specs.OnRow.{apic_in}
-use Rattle.board_step.specs.Due.{due_by, due_in, AnswersDue}
+use Rattle.board_step.proofs.Basics.{◌<◌, sym, ap, ◌∙◌, subst, option_map, Lapic, Board, part_of, pair_of, CodeParts as Parts, CodePic as PicPart, apic_in, due_by, due_in, AnswersDue}
 use Rattle.board_step.proofs.DueNow.{acks_due, kept_due}
 use Rattle.board_step.proofs.board.Board.due.Goals as goal
 

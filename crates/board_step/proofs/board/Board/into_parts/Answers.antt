@@ -1,11 +1,5 @@
-use Rattle.std.proofs.Common.{sym, ap, ◌∙◌, subst}
-use Rattle.board_model.specs.Board.{Board}
-use Rattle.board_model.specs.Hand.{all_parts}
-use Rattle.board_raise.specs.Fit.{Fits}
-use Rattle.board_raise.specs.InHand.{parts_of, chips_of}
+use Rattle.board_step.proofs.Basics.{sym, ap, ◌∙◌, subst, Board, all_parts, Fits, parts_of, chips_of, IsWhole, board_of, board_in}
 use Rattle.board_raise.specs.declared.parts.Parts as code
-use Rattle.board_step.specs.Whole.{IsWhole, board_of}
-use Rattle.board_step.specs.Owned.{board_in}
 use Rattle.board_step.proofs.WholeParts.{board_has_its_parts}
 use Rattle.board_step.proofs.OpeningParts.{sound_fits}
 use Rattle.board_step.proofs.board.Board.into_parts.Goals as goal

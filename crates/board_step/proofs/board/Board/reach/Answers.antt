@@ -1,10 +1,4 @@
-use Rattle.std.proofs.Common.{sym, ap, ◌∙◌}
-use Rattle.board_model.specs.Board.{Board}
-use Rattle.board_raise.specs.declared.parts.Parts.{Parts}
-use Rattle.board_raise.specs.InHand.{parts_of}
-use Rattle.board_step.specs.Reach.{reach}
-use Rattle.board_step.specs.ReachNow.{reach_now}
-use Rattle.board_step.specs.Whole.{board_of}
+use Rattle.board_step.proofs.Basics.{sym, ap, ◌∙◌, Board, CodeParts as Parts, parts_of, reach, reach_now, board_of}
 use Rattle.board_step.proofs.ReachTables.{reach_by_registry}
 use Rattle.board_step.proofs.SeenParts.{reach_uncounted}
 use Rattle.board_step.proofs.board.Board.reach.Goals as goal

@@ -1,19 +1,4 @@
-use Rattle.std.proofs.Common.{◌≡◌, true, false, None, refl, sym, ap, ◌∙◌, subst}
-use Rattle.std.specs.Prelude.{IfSome}
-use Rattle.irq_base.specs.Callers.{is_allowed}
-use Rattle.irq_base.specs.declared.reply.Done.{Done}
-use Rattle.irq_base.specs.declared.shape.Part.{Part}
-use Rattle.board_model.specs.Board.{Board, part_of}
-use Rattle.board_model.specs.Published.{published}
-use Rattle.board_raise.specs.BoardRig.{words_in}
-use Rattle.board_raise.specs.InHand.{registry_of, parts_of}
-use Rattle.board_raise.specs.declared.parts.Parts.{Parts}
-use Rattle.board_calls.specs.Done.{FitsButTick}
-use Rattle.board_step.specs.Applied.{Applied, Ran}
-use Rattle.board_step.specs.Bodies.{MayCall, Stepped}
-use Rattle.board_step.specs.Owned.{board_in, IsKept}
-use Rattle.board_step.specs.Reach.{reach}
-use Rattle.board_step.specs.Step.{would_publish, spent_of}
+use Rattle.board_step.proofs.Basics.{◌≡◌, true, false, None, refl, sym, ap, ◌∙◌, subst, IfSome, is_allowed, DoneCall as Done, Part, Board, part_of, published, words_in, registry_of, parts_of, CodeParts as Parts, FitsButTick, Applied, Ran, MayCall, Stepped, board_in, IsKept, reach, would_publish, spent_of}
 use Rattle.board_step.proofs.Applied.{kept_is_of}
 use Rattle.board_step.proofs.Applying.{wishing, wishing_kept, wishing_is, wishing_ran, registry_there, board_fits, spent_told, never_lacks, call_applied, call_outside, kept_quietly, kept_anew}
 use Rattle.board_step.proofs.board.Board.step.Goals as goal

@@ -1,7 +1,4 @@
-use Rattle.std.proofs.Common.{◌≡◌, true, sym, ◌∙◌, subst}
-use Rattle.irq_base.specs.Callers.{is_there}
-use Rattle.board_model.specs.Board.{Board}
-use Rattle.board_step.specs.Applied.{is_reached}
+use Rattle.board_step.proofs.Basics.{◌≡◌, true, sym, ◌∙◌, subst, is_there, Board, is_reached}
 use Rattle.board_step.proofs.Faces.{spent_reached, never_barred, answered_shape, answered_there, answered_left, answered_place, still_reached}
 use Rattle.board_step.proofs.on_board.OnBoardFace.ask.Goals as goal
 
