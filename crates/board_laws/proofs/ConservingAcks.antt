@@ -68,10 +68,7 @@ module _ (tick : ℕ) (may : ℕ → Bool) where
   singly_due due [] h = tt
   singly_due due (Acked pin None ∷ xs) h = h
   singly_due due (Acked pin (Some gsi) ∷ xs) h = h
-  singly_due due (Injected gsi status ∷ xs) h = (wider (may gsi) (due && nat_eq gsi tick) h.0, h.1)
-    where
-      wider : (a b : Bool) → (a || false) ≡ true → (a || b) ≡ true
-      wider a b h1 = grind arith
+  singly_due due (Injected gsi status ∷ xs) h = ((grind (arith, h.0)), h.1)
   singly_due due (_ ∷ xs) h = (refl, λ quiet. singly_due due xs (h.1 quiet))
 
   singly_append : (due : Bool) (xs ys : List Event) → Singly tick may due xs → Singly tick may false ys → Singly tick may due (xs ++ ys)

@@ -25,9 +25,6 @@ module _ (may : ℕ → Bool) (routing : Routing) (shape : Shape) where
 
 -- ---- calls that conserve ticks
 
-none_more : (left was acks : ℕ) → left ≡ was - (0 + acks) → left ≡ was - (0 + (0 + acks))
-none_more left was acks e = omega (arith, e)
-
 -- what a call needs to tell what may come: an Assign injects on its GSI, and guest writes may ring ioeventfds; those that set
 -- the tick state are of another kind
 abbrev pub Lets : Bool → (ℕ → Bool) → Call → Type 0
@@ -69,7 +66,7 @@ module _ (routing : Routing) (shape : Shape) (rings : Bool) (may : ℕ → Bool)
       of_rung (Some counter) = λ b ws fit.
           let m = ring_counter routing shape counter (routing.trigger counter) >> reply Done in
           let r = quiet_conserving shape.tick rings (λ _. true) m (rung_quiet (λ _. true) routing shape counter (λ _. refl)) b ws in
-          record { reinjects = r.reinjects; pending = λ on. none_more (run m b ws).board.tick.pending b.tick.pending (acks_in shape.tick (run m b ws).log.events) (r.pending on); stays = r.stays; allowed = (h, r.allowed); singly = (refl, λ quiet. let never : true ≡ false = quiet in cc) }
+          record { reinjects = r.reinjects; pending = λ on. (omega (arith, (r.pending on))); stays = r.stays; allowed = (h, r.allowed); singly = (refl, λ quiet. let never : true ≡ false = quiet in cc) }
 
   port_out_keeps : (port len value : ℕ) → (is_port port ≡ true) ⊎ (rings ≡ true) → Keeps (port_out routing shape port len value)
   port_out_keeps port len value h = elim (is_port port) as (λ t. (t ≡ true) ⊎ (rings ≡ true) → Keeps (if t then pair_write routing shape port len value else ring routing shape Space.Port port len value)) [

@@ -112,17 +112,13 @@ conserved_from b es c start leads stays =
     sum : (was all last taken : ℕ) → was ≡ 0 → was + all ≡ last + taken → all ≡ last + taken
     sum was all last taken e f = omega (arith, e, f)
 
--- an entry that sets the mode of ticks leaves that mode at its start
-mode_set : (b : Board) (e : Entry) (c : Board) (reinject : Bool) → Step b e c → e.call ≡ Call.TickMode reinject → c.tick ≡ in_mode reinject
-mode_set b e c reinject h1 h2 = grind arith
-
 -- reinjection starts on the board after such entries
 started : (shape : Shape) (early : List Entry) (b : Board) → Leads (opening shape) early b → StartsReinjection early → b.tick ≡ in_mode true
 started shape early b leads (inl none) = ap (λ (d : Board). d.tick) (sym (subst (λ (es : List Entry). Leads (opening shape) es b) none leads))
 started shape early b leads (inr turned) = of_end (split (opening shape) turned.before (turned.last ∷ []) b (subst (λ (es : List Entry). Leads (opening shape) es b) turned.ends leads)).1
   where
     of_end : Leads (board_after (opening shape) turned.before) (turned.last ∷ []) b → b.tick ≡ in_mode true
-    of_end (next, step, same) = ap (λ (d : Board). d.tick) (sym same) ∙ mode_set (board_after (opening shape) turned.before) turned.last next true step turned.call
+    of_end (next, step, same) = ap (λ (d : Board). d.tick) (sym same) ∙ (grind (arith, step, turned.call))
 
 pub ticks_are_conserved : OfLegalHistories TicksAreConserved
 ticks_are_conserved shape history (last, leads) early es stretch =
@@ -202,7 +198,7 @@ state_is_free_unless_reinjects = of_boards IsFreeUnlessReinjects step_open openi
 
 -- a tick is injected where the state is free, in either mode
 falls_free : (b : Board) (e : Entry) (c : Board) → Step b e c → IsFreeUnlessReinjects b → FallsFree b e c
-falls_free b e c s before = record { injected = λ status falls replied. by_state falls status replied b.tick.free refl; held = held }
+falls_free b e c s before = record { injected = λ status falls replied. (grind (arith, falls, replied, refl)); held = held }
   where
     held : e.call ≡ Call.Tick → b.tick.free ≡ false → HoldsBack b e c
     held falls busy = of_mode b.tick.reinjects refl
@@ -210,9 +206,6 @@ falls_free b e c s before = record { injected = λ status falls replied. by_stat
         of_mode : (t : Bool) → b.tick.reinjects ≡ t → HoldsBack b e c
         of_mode true on = busy_ticks_are_held_back b e c s falls on busy
         of_mode false off = absurd (true≢false (sym (before off) ∙ busy))
-
-    by_state : e.call ≡ Call.Tick → (status : Status) → e.reply ≡ Signal status → (t : Bool) → b.tick.free ≡ t → t ≡ true
-    by_state h1 status h2 t h3 = grind arith
 
 pub ticks_inject_free : OfLegalHistories TicksInjectFree
 ticks_inject_free = at_points (λ shape p. FallsFree (board_at shape p) p.entry (board_left shape p))

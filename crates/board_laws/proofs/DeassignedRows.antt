@@ -9,9 +9,6 @@ abbrev pub AreApart : List Irqfd → Type 0
 AreApart [] = Unit {0}
 AreApart (row ∷ rows) = (list_any (has_trigger row.trigger) rows ≡ false) × AreApart rows
 
-turned : (a b : ℕ) → nat_eq a b ≡ false → nat_eq b a ≡ false
-turned a b e = grind arith
-
 -- a test of an element more, which it fails
 pub none_more : (p : Irqfd → Bool) (rows : List Irqfd) (row : Irqfd) → list_any p rows ≡ false → p row ≡ false → list_any p (rows ++ row ∷ []) ≡ false
 none_more p rows row none off = list_any-append p rows (row ∷ []) ∙ or_both (list_any p rows) (p row || false) none (or_both (p row) false off refl)
@@ -21,7 +18,7 @@ pub apart_with : (rows : List Irqfd) (row : Irqfd) → AreApart rows → list_an
 apart_with [] row apart none = (refl, tt)
 apart_with (x ∷ xs) row apart none =
     let each = or_neither (has_trigger row.trigger x) (list_any (has_trigger row.trigger) xs) none in
-    (none_more (has_trigger x.trigger) xs row apart.0 (turned x.trigger row.trigger each.0), apart_with xs row apart.1 each.1)
+    (none_more (has_trigger x.trigger) xs row apart.0 (grind (arith, each.0)), apart_with xs row apart.1 each.1)
 
 -- rows that go
 pub apart_fewer : (keep : Irqfd → Bool) (rows : List Irqfd) → AreApart rows → AreApart (filter keep rows)
@@ -157,12 +154,9 @@ module _ (b : Board) (caller : Caller) (ws : Wishes) where
 
 -- ---- along a history
 
-counted_rows : (t : Bool) (b : Board) → (with_counts t b).registry.irqfds ≡ b.registry.irqfds
-counted_rows t b = grind arith
-
 -- the rows after a step are those of its outcome
 rows_left : (b : Board) (e : Entry) (c : Board) (s : Step b e c) → (outcome_of b e s.wishes).board.registry.irqfds ≡ c.registry.irqfds
-rows_left b e c s = sym (counted_rows (would_publish b e.call) (outcome_of b e s.wishes).board) ∙ ap (λ (d : Board). d.registry.irqfds) s.leads
+rows_left b e c s = sym (grind arith) ∙ ap (λ (d : Board). d.registry.irqfds) s.leads
 
 pub step_apart : (b : Board) (e : Entry) (c : Board) → Step b e c → AreApart b.registry.irqfds → AreApart c.registry.irqfds
 step_apart b e c s apart = subst AreApart (rows_left b e c s) (elim (rows_after b e.caller s.wishes e.call) [

@@ -49,9 +49,6 @@ record Rings (counter : ℕ) (b : Board) (o : Outcome (Unit {0})) : Type 0 where
   answers : o.log.answers ≡ Done ∷ []
   changes : ChangesCountAlone counter b o.board
 
-changes_none : (counter : ℕ) (b : Board) → ChangesCountAlone counter b b
-changes_none counter b = record { parts = λ q _. refl; counts = λ k _. refl }
-
 changes_count : (counter v : ℕ) (b : Board) → ChangesCountAlone counter b (with_part b Part.Counters (slice_set b.counters counter v))
 changes_count counter v b = record { parts = others; counts = λ k ne. other_place b.counters counter k v ne }
   where
@@ -76,7 +73,7 @@ module _ (counter : ℕ) (b : Board) (ws : Wishes) where
   -- a call that is refused
   unless_plainly : (refusal : Option Refusal) (plan : Plan (Unit {0})) → Plainly counter b (run plan b ws) → Plainly counter b (run (unless_refused refusal plan) b ws)
   unless_plainly None plan h = h
-  unless_plainly (Some refusal) plan h = record { told = refl; answers = inr (refusal, refl); changes = changes_none counter b }
+  unless_plainly (Some refusal) plan h = record { told = refl; answers = inr (refusal, refl); changes = (record { parts = λ q _. refl; counts = λ k _. refl }) }
 
   -- ---- a guest write that rings it
 

@@ -135,15 +135,12 @@ module _ (b : Board) (stand : HasProcessors b b.shape.cpus) where
   })
   tick_judged false ws = inr refl
 
-  mute_judged : (n : ℕ) (call : Call) (ws : Wishes) → Holds mute (plan_in_range routing b.shape n call) → Judged call (run (plan_in_range routing b.shape n call) b ws)
-  mute_judged n call ws h = inr (h b ws tt)
-
   range_judged : (n : ℕ) (call : Call) (ws : Wishes) → Judged call (run (plan_in_range routing b.shape n call) b ws)
   range_judged n (Call.Line gsi line high) ws = inl (line_judged gsi line high n ws)
   range_judged n (Call.Msi address payload) ws = inl (message_judged address payload n ws)
   range_judged n (Call.Write counter count) ws = write_judged counter count (routing.trigger counter) refl ws
   range_judged n Call.Tick ws = tick_judged (tick_injects b.tick) ws
-  range_judged n call ws = mute_judged n call ws (call_mute routing b.shape n call refl)
+  range_judged n call ws = inr ((call_mute routing b.shape n call refl) b ws tt)
 
   call_judged : (caller : Caller) (call : Call) (ws : Wishes) → Judged call (run (plan_on b caller call) b ws)
   call_judged caller call ws = of_refusal (first_of (range_reasons b.shape call))

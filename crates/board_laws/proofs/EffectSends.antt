@@ -80,9 +80,6 @@ is_lowered _ = false
 chip_never_lowers : (c : Chip) (pin : ℕ) → is_lowered (chip_outcome c pin true) ≡ false
 chip_never_lowers c pin = grind arith
 
-never_lowers : (p : Pair) (pin : ℕ) → is_lowered (pin_outcome p pin true) ≡ false
-never_lowers p pin = grind arith
-
 module _ (b : Board) (targets : Targets) where
   pic_stood : (pin : Option ℕ) → targets.pic ≡ pin → Some stood_already ≡ pic_answer_on b pin → PicStood b targets
   pic_stood None there says = absurd (true≢false (ap is_some says))
@@ -92,7 +89,7 @@ module _ (b : Board) (targets : Targets) where
       of_outcome PinOutcome.New is h = absurd (true≢false (sym h))
       of_outcome PinOutcome.Stood is h = let found = pin_stood b.pic pin (ap has_stood is) in record { pin = pin; there = there; unmasked = found.0; stood = found.1 }
       of_outcome PinOutcome.Masked is h = absurd (true≢false (sym h))
-      of_outcome PinOutcome.Lowered is h = absurd (true≢false (sym (ap is_lowered is) ∙ never_lowers (pair_of b.pic) pin))
+      of_outcome PinOutcome.Lowered is h = absurd (true≢false (sym (ap is_lowered is) ∙ (grind arith)))
 
   -- what the other target's answer says, the request standing at these processors
   abbrev pub OtherSays : Option TargetAnswer → Numbers → Type 0
@@ -114,10 +111,6 @@ module _ (b : Board) (targets : Targets) where
   said_of (Some (no_effect cause)) (Some (no_effect other)) sent is says quiet = ignored_for b targets (Some (no_effect cause)) (Some (no_effect other)) is says refl refl
   said_of _ (Some newly_taken) sent is says quiet = absurd (true≢false (sym quiet))
 
--- where the message is newly taken, there is an effect
-newly_has_effect : (pic : Option TargetAnswer) (sent : Sent) → is_without_effect (status_of pic (Some newly_taken) sent) ≡ false
-newly_has_effect pic sent = grind arith
-
 -- ---- what a local APIC keeps of its requests
 
 -- what is there already is not put in
@@ -136,10 +129,6 @@ by_tests a m true enabled low has = refl
 by_tests a m false false low has = refl
 by_tests a m false true true has = refl
 by_tests a m false true false has = insert_there a.irr m.vector has
-
--- a message whose request is there changes no request
-had_stays : (a : LocalApic) (m : Message) → (if is_nmi m.mode then a.nmi else contains a.irr m.vector) ≡ true → (accepted a m).irr ≡ a.irr
-had_stays a m has = by_tests a m (is_nmi m.mode) (is_enabled a) (nat_lt m.vector 16) has
 
 -- nor does a message with an illegal vector
 illegal_stays : (a : LocalApic) (m : Message) → is_illegal m ≡ true → (accepted a m).irr ≡ a.irr
@@ -176,9 +165,6 @@ module _ (b : Board) (stand : HasProcessors b b.shape.cpus) (targets : Targets) 
   stand_still : HasProcessors d b.shape.cpus
   stand_still = record { places = stand.places; numbers = stand.numbers }
 
-  processors_alike : (ns : List ℕ) → processors_on d ns ≡ processors_on b ns
-  processors_alike ns = grind arith
-
   abbrev about : About
   about = the_reply (pic_answer_on b targets.pic)
 
@@ -202,7 +188,7 @@ module _ (b : Board) (stand : HasProcessors b b.shape.cpus) (targets : Targets) 
     cause_says cause is = sym (answers ∙ ap Some is)
 
     named_is : named_on d b.shape.cpus message None ≡ named_on b b.shape.cpus message None
-    named_is = ap (named_by message None) (processors_alike (numbers_below b.shape.cpus))
+    named_is = ap (named_by message None) (grind arith)
 
     -- the illegal vector is recorded alone
     refused_spares : (takers : Numbers) (ns : List ℕ) → is_illegal message ≡ true → Holds (spared b) (accept_each message takers (processors_on d ns))
@@ -239,7 +225,7 @@ module _ (b : Board) (stand : HasProcessors b b.shape.cpus) (targets : Targets) 
 
           requests : is_empty is.sent.new ≡ true → SameRequests b o.board
           requests none n = ap (λ (a : LocalApic). a.irr) (is.after n) ∙ (elim (contains s n) as (λ t. contains s n ≡ t → (if t then accepted (part_of b (Lapic n)) message else part_of b (Lapic n)).irr ≡ (part_of b (Lapic n)).irr) [
-            | true ↦ λ reached. had_stays (part_of b (Lapic n)) message (had none n reached)
+            | true ↦ λ reached. (by_tests (part_of b (Lapic n)) message (is_nmi message.mode) (is_enabled (part_of b (Lapic n))) (nat_lt message.vector 16) (had none n reached))
             | false ↦ λ _. refl
           ] refl)
 
@@ -254,7 +240,7 @@ module _ (b : Board) (stand : HasProcessors b b.shape.cpus) (targets : Targets) 
 
           by_new : (t : Bool) → is_empty is.sent.new ≡ t → is_without_effect (status_of (pic_answer_on b targets.pic) (Some (if t then stood_already else newly_taken)) is.sent) ≡ true → IsSaidOf b targets (status_of (pic_answer_on b targets.pic) (Some (if t then stood_already else newly_taken)) is.sent) × SameRequests b o.board
           by_new true none quiet = (said_of b targets (pic_answer_on b targets.pic) (Some stood_already) is.sent refl (inr (stood none)) quiet, requests none)
-          by_new false some quiet = absurd (true≢false (sym quiet ∙ newly_has_effect (pic_answer_on b targets.pic) is.sent))
+          by_new false some quiet = absurd (true≢false (sym quiet ∙ (grind arith)))
 
       delivered_says : Says b targets (run (send b.shape.cpus message None about) d ws)
       delivered_says = let only_so = (wishes_reach_exactly b.shape.cpus message None about d stand_still is_sent).only ws in sending_says (run (send b.shape.cpus message None about) d ws) only_so.1 only_so.2

@@ -133,10 +133,7 @@ module _ (b : Board) (ws : Wishes) (s : Stands b) where
 
       apart : AllPairs (λ (a c : Irqfd). has_trigger a.trigger c ≡ false) t.irqfds
       apart = pairs_push (λ (a c : Irqfd). has_trigger a.trigger c ≡ false) r.irqfds row s.apart
-          (All-weaker (λ (i : Irqfd). has_trigger trigger i ≡ false) (λ (i : Irqfd). has_trigger i.trigger row ≡ false) (λ i off. turned i.trigger trigger off) r.irqfds (each_fails (has_trigger trigger) r.irqfds free))
-        where
-          turned : (a b : ℕ) → nat_eq a b ≡ false → nat_eq b a ≡ false
-          turned a b e = grind arith
+          (All-weaker (λ (i : Irqfd). has_trigger trigger i ≡ false) (λ (i : Irqfd). has_trigger i.trigger row ≡ false) (λ i off. (grind (arith, off))) r.irqfds (each_fails (has_trigger trigger) r.irqfds free))
 
       fires : MayRaise (held t s.made) (targets_of t.table gsi) (source_of (is_some resample))
       fires = may t s.made gsi (source_of (is_some resample)) (λ is. own_row r row (resamples_if (is_some resample) is))
@@ -208,8 +205,5 @@ opening_stands shape = record {
   held = record { registry = refl; pic = none_held (opening shape).registry Pin.Pic; ioapic = none_held (opening shape).registry Pin.Ioapic };
 }
 
-stands_hold : (b : Board) → Stands b → HoldsForResamplers b
-stands_hold b s = record { pic = s.held.pic; ioapic = s.held.ioapic }
-
 pub resample_holds_for_resamplers : OfLegalHistories ResampleHoldsForResamplers
-resample_holds_for_resamplers shape history legal first begins = stands_hold _ (of_boards Stands step_stands opening_stands shape history legal first begins)
+resample_holds_for_resamplers shape history legal first begins = record { pic = (of_boards Stands step_stands opening_stands shape history legal first begins).held.pic; ioapic = (of_boards Stands step_stands opening_stands shape history legal first begins).held.ioapic }

@@ -15,9 +15,6 @@ opening_fine cpus = record {
 
 -- ---- one entry
 
-is_ack_is : (call : Call) → is_ack call ≡ true → call ≡ Call.Ack
-is_ack_is call h1 = grind arith
-
 -- the sendings of an entry, and the board after its plan
 abbrev made_by : Board → Entry → List (Board × Sending)
 made_by b e = sendings_of (plan_on b e.caller e.call) b (wishes_shown e)
@@ -40,7 +37,7 @@ loses_none b e fine = of_ack (is_ack e.call) refl
     of_ack : (t : Bool) → is_ack e.call ≡ t → LosesNone b e (after_plan b e).lapics
     of_ack false other = inl (call_safe routing b.shape (first_of (range_reasons b.shape e.call)) (number_of e.caller) e.call other b (wishes_shown e) fine)
     of_ack true is =
-        let ack : e.call ≡ Call.Ack = is_ack_is e.call is in
+        let ack : e.call ≡ Call.Ack = (grind (arith, is)) in
         inr (ack, subst (λ (c : Call). TakingRun b.shape.cpus (number_of e.caller) (plan_on b e.caller c) b (wishes_shown e)) (sym ack) (next_taking routing b.shape (number_of e.caller) b (wishes_shown e) fine))
 
 -- an entry leaves each request or takes it, and each of its sendings leaves a request at each processor that it reached
@@ -90,14 +87,11 @@ passes shape b e c stands step = subst (λ (s : Shape). Fine s.cpus b.lapics →
 
 -- ---- along a history
 
-leads_on : (b : Board) (e : Entry) (next : Board) (es : List Entry) (c : Board) → Step b e next → Leads next es c → Leads (next_board b e) es c
-leads_on b e next es c step later = subst (λ (x : Board). Leads x es c) (sym (next_is b e next step)) later
-
 stays : (shape : Shape) (b : Board) (es more : List Entry) (c : Board) → Stands shape b → Leads b (es ++ more) c → (n : ℕ) (message : Message) → has_request_on b message n ≡ true → IsPendingOrTaken b n message es
 stays shape b [] more c stands leads n message h = inl h
 stays shape b (e ∷ es) more c stands (next, step, later) n message h =
     let p = passes shape b e next stands step in
-    of_entry (λ had. stays shape (next_board b e) es more c (record { same = p.same; fine = p.fine }) (leads_on b e next (es ++ more) c step later) n message had) (p.keeps n message h)
+    of_entry (λ had. stays shape (next_board b e) es more c (record { same = p.same; fine = p.fine }) (subst (λ (x : Board). Leads x (es ++ more) c) (sym (next_is b e next step)) later) n message had) (p.keeps n message h)
   where
     of_entry : (has_request_on (next_board b e) message n ≡ true → IsPendingOrTaken (next_board b e) n message es) → (has_request_on (next_board b e) message n ≡ true) ⊎ (takes n message e ≡ true) → IsPendingOrTaken b n message (e ∷ es)
     of_entry on (inl had) = of_later (on had)

@@ -20,16 +20,13 @@ or_later a b h1 = grind arith
 -- a message takes no request away
 pub accepted_keeps : (a : LocalApic) (m : Message) → KeepsRequests a (accepted a m)
 accepted_keeps a m message h = elim (is_nmi m.mode) as (λ t. has (if t then record a { nmi = true } else if not (is_enabled a) then a else if nat_lt m.vector 16 then with_error a 6 else with_request a m) message ≡ true) [
-  | true ↦ of_nmi (is_nmi message.mode) h
+  | true ↦ (grind (arith, h))
   | false ↦ elim (is_enabled a) as (λ t. has (if not t then a else if nat_lt m.vector 16 then with_error a 6 else with_request a m) message ≡ true) [
     | true ↦ elim (nat_lt m.vector 16) as (λ t. has (if t then with_error a 6 else with_request a m) message ≡ true) [ true ↦ h | false ↦ of_request (is_nmi message.mode) h ]
     | false ↦ h
   ]
 ]
   where
-    of_nmi : (t : Bool) → (if t then a.nmi else contains a.irr message.vector) ≡ true → (if t then true else contains a.irr message.vector) ≡ true
-    of_nmi t h1 = grind arith
-
     of_request : (t : Bool) → (if t then a.nmi else contains a.irr message.vector) ≡ true → (if t then a.nmi else contains (insert a.irr m.vector) message.vector) ≡ true
     of_request true h = h
     of_request false h = contains-insert_number a.irr m.vector message.vector ∙ or_later (nat_eq message.vector m.vector) _ h

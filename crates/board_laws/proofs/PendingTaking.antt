@@ -46,15 +46,12 @@ module _ (cpus : ℕ) where
   put_taking n b v r fine number leaves = record {
     stands = put_fine cpus b n v fine number;
     keeps = after_put (λ k a. (message : Message) → has (part_of b (Lapic k)) message ≡ true → (has a message ≡ true) ⊎ ((n ≡ k) × ((q : Reply) → r ∷ [] ≡ q ∷ [] → takes_by message q ≡ true))) b n v
-        (λ message h. told message (leaves message h)) (λ k message h. inl h);
+        (λ message h. (grind (arith, (leaves message h)))) (λ k message h. inl h);
     sent = All-nil (λ (x : Board × Sending). IsMade cpus (with_part b (Lapic n) v).lapics x.0 x.1);
   }
     where
       same : (q : Reply) → r ∷ [] ≡ q ∷ [] → r ≡ q
       same q e = cc
-
-      told : (message : Message) → IsLeft v r message → (has v message ≡ true) ⊎ ((n ≡ n) × ((q : Reply) → r ∷ [] ≡ q ∷ [] → takes_by message q ≡ true))
-      told message h1 = grind arith
 
 module _ (routing : Routing) (shape : Shape) where
   abbrev cpus : ℕ

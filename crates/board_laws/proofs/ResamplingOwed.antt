@@ -164,13 +164,10 @@ module _ (r : RegistryPart) where
           | false ↦ λ off. record { does = acks_quietly r {A = Unit {0}} (done tt) (ended (left r) tt) b ws is; first = λ on. let never : false ≡ true = sym off ∙ on in cc }
         ] refl
 
-    notify_acks : (gsi : ℕ) → Acks r (notify gsi r)
-    notify_acks gsi = signal_acks r (watched r.watches gsi) (watch_events r.watches gsi) (watches_tell r (watched r.watches gsi))
-
     both_concern : (gsi : ℕ) (b : Board) (ws : Wishes) → b.registry ≡ r → Concerns gsi b (run (resample_and_notify routing gsi) b ws)
     both_concern gsi b ws is =
         subst (λ (q : RegistryPart). Concerns gsi b (run (resample (targets_of r.table gsi) gsi q >> notify gsi q) b ws)) (sym is)
-        (concerns_then gsi (resample (targets_of r.table gsi) gsi r) (notify gsi r) (resample_concerns gsi) (notify_acks gsi) b ws is)
+        (concerns_then gsi (resample (targets_of r.table gsi) gsi r) (notify gsi r) (resample_concerns gsi) (signal_acks r (watched r.watches gsi) (watch_events r.watches gsi) (watches_tell r (watched r.watches gsi))) b ws is)
 
     -- a GSI with a resampler is marked
     tell_concerns : (gsi : ℕ) (b : Board) (ws : Wishes) → b.registry ≡ r → Concerns gsi b (run (tell_concerned routing (Some gsi)) b ws)

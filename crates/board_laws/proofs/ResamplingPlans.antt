@@ -22,10 +22,7 @@ fewer_held holds k h free = contains-remove hold_cmp_total holds k h ∙ ap (λ 
 
 -- the hold that was removed
 pub gone : (holds : Holds) (h : Hold) → contains (remove holds h) h ≡ false
-gone holds h = contains-remove hold_cmp_total holds h h ∙ ap (λ t. not t && contains holds h) (itself h)
-  where
-    itself : (h : Hold) → eq_by_cmp hold_cmp h h ≡ true
-    itself h = ap is_eq (tied_itself hold_cmp_total h)
+gone holds h = contains-remove hold_cmp_total holds h h ∙ ap (λ t. not t && contains holds h) (ap is_eq (tied_itself hold_cmp_total h))
 
 -- ---- what is left by a plan without an acknowledge
 

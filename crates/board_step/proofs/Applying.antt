@@ -57,11 +57,8 @@ spent_told a call t is = ap (spent_by a.shape a.length a.publications) is
 pub never_lacks : (a : Inside) → IsKept a → (caller : Caller) (call : Call) → is_allowed caller call a.shape ≡ true → (p : Part) → LacksReached p (parts_of a.rig.parts) (reach (board_in a) caller call) → ⊥
 never_lacks a kept caller call allowed p lacks = true≢false (sym (kept.whole.each p (is_of p lacks.reached)) ∙ ap is_some lacks.lacking)
   where
-    below : (n m : ℕ) → n < m → nat_lt n m ≡ true
-    below n m h = grind (h, arith, nat_tests)
-
     is_of : (p : Part) → reach (board_in a) caller call p ≡ true → is_part a.shape p ≡ true
-    is_of (Lapic n) within = below n a.shape.cpus (reach_is_there (board_in a) caller call n allowed within)
+    is_of (Lapic n) within = grind ((reach_is_there (board_in a) caller call n allowed within), arith, nat_tests)
     is_of _ within = refl
 
 -- ---- after it

@@ -50,10 +50,7 @@ total_append f (x ∷ xs) ys = omega (arith, total_append f xs ys)
 -- each number is once below another, or not at all
 once_below : (k n : ℕ) → total (λ m. if nat_eq k m then 1 else 0) (numbers_below n) ≡ (if nat_lt k n then 1 else 0)
 once_below k zero = grind (arith, nat_tests)
-once_below k (suc n) = total_append (λ m. if nat_eq k m then 1 else 0) (numbers_below n) (n ∷ []) ∙ ap (λ t. t + ((if nat_eq k n then 1 else 0) + 0)) (once_below k n) ∙ one_more k n
-  where
-    one_more : (k n : ℕ) → (if nat_lt k n then 1 else 0) + ((if nat_eq k n then 1 else 0) + 0) ≡ (if nat_lt k (suc n) then 1 else 0)
-    one_more k n = grind (arith, nat_tests)
+once_below k (suc n) = total_append (λ m. if nat_eq k m then 1 else 0) (numbers_below n) (n ∷ []) ∙ ap (λ t. t + ((if nat_eq k n then 1 else 0) + 0)) (once_below k n) ∙ (grind (arith, nat_tests))
 
 pin_once : (pin : Option ℕ) (n : ℕ) → total (λ m. if is_same pin (Some m) then 1 else 0) (numbers_below n) ≤ 1
 pin_once None n = none (numbers_below n)

@@ -93,10 +93,7 @@ resamplers_at_most (row ∷ rows) = by_test (is_some row.resample) (resamplers_a
 -- a resample counter of some irqfd is that of the list
 is_resample : (counter : ℕ) (rows : List Irqfd) → Any (λ (row : Irqfd). row.resample ≡ Some counter) rows → list_any (has_resample counter) rows ≡ true
 is_resample counter rows (k, row, below, at, resample) =
-    list_any-from_Any (has_resample counter) rows (k, row, below, at, ap (is_counter counter) resample ∙ itself counter)
-  where
-    itself : (n : ℕ) → nat_eq n n ≡ true
-    itself n = grind arith
+    list_any-from_Any (has_resample counter) rows (k, row, below, at, ap (is_counter counter) resample ∙ (grind arith))
 
 module _ (counters : ℕ) (registry : RegistryPart) (few : counters ≤ 256) (fits : RegistrationsFit counters registry) (distinct : AreDistinct registry) where
   below : All (IsBelow counters) registry.irqfds

@@ -35,7 +35,7 @@ spent_reached b call spent is = by (nat_eq b.length b.shape.calls) (would_publis
 
 -- where calls are left, and the call can be no publication, no limit bars it
 pub never_barred : (b : Board) (call : Call) (spent : Spent) → spent_of b call ≡ Some spent → 0 < b.shape.calls - b.length → may_publish call ≡ false → ⊥
-never_barred b call spent is left quiet = some_none spent (sym is ∙ (λ i. if short i then Some (Calls b.shape.calls) else if no_publication i && nat_eq b.publications b.shape.publications then Some (Publications b.shape.publications) else None))
+never_barred b call spent is left quiet = some_none spent (sym is ∙ (λ i. if short i then Some (Calls b.shape.calls) else if (unless (refusal_of b call) call quiet) i && nat_eq b.publications b.shape.publications then Some (Publications b.shape.publications) else None))
   where
     short : nat_eq b.length b.shape.calls ≡ false
     short = grind (left, arith, nat_tests)
@@ -48,9 +48,6 @@ never_barred b call spent is left quiet = some_none spent (sym is ∙ (λ i. if 
     unless None (Call.Watch counter gsi) quiet = absurd (true≢false quiet)
     unless None (Call.Unwatch counter gsi) quiet = absurd (true≢false quiet)
     unless None _ quiet = refl
-
-    no_publication : would_publish b call ≡ false
-    no_publication = unless (refusal_of b call) call quiet
 
 -- ---- after an answer
 
@@ -93,7 +90,7 @@ module _ (b : Board) (caller : Caller) (call : Call) (done : Done) (before now :
       barred_then : (nat_eq at b.shape.calls ≡ true) × (nat_eq b.length at ≡ true) → ⊥
       barred_then h = (let p = h.0 in let q = h.1 in let long : nat_eq b.length b.shape.calls ≡ true = grind (p, q, arith, nat_tests) in
           some_none (Calls b.shape.calls) (sym (ap (λ t. if t then Some (Calls b.shape.calls) else if would_publish b call && nat_eq b.publications b.shape.publications then Some (Publications b.shape.publications) else None) long) ∙ applied.step.in_limits))
-  still_reached (Some (Publications at)) is = (λ i. nat_eq at (frame.shape i).publications && nat_eq (same i) at) ∙ is
+  still_reached (Some (Publications at)) is = (λ i. nat_eq at (frame.shape i).publications && nat_eq ((frame.publications ∙ ap (λ t. if t then b.publications + 1 else b.publications) never) i) at) ∙ is
     where
       e : Entry
       e = entry_of caller call done.reply applied.told
@@ -112,6 +109,3 @@ module _ (b : Board) (caller : Caller) (call : Call) (done : Done) (before now :
 
       never : is_publication e ≡ false
       never = sym (steps_show_publications b e c applied.step) ∙ by (nat_eq b.length b.shape.calls) (would_publish b call) refl refl
-
-      same : c.publications ≡ b.publications
-      same = frame.publications ∙ ap (λ t. if t then b.publications + 1 else b.publications) never

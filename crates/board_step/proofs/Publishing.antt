@@ -61,10 +61,6 @@ module _ (b : Board) (caller : Caller) (ws : Wishes) where
           sym (ap is_removed (answers_last (release routing gsi (was_last_resampler row rows)) (Removed 1) r _ ws answers))
   shows_in_range _ r free answers = refl
 
-  -- a refusal is no publication
-  refused_publishes : (call : Call) (refusal : Refusal) → did_publish call (Refused refusal) ≡ false
-  refused_publishes call refusal = grind arith
-
   shows : (call : Call) (r : Reply) → answers_of (plan_on b caller call) ≡ r ∷ [] → would_publish b call ≡ did_publish call r
   shows call r answers = by_refusal (refusal_of b call) refl
     where
@@ -74,15 +70,12 @@ module _ (b : Board) (caller : Caller) (ws : Wishes) where
           shows_in_range call r none.1 (sym (is_free _ (plan_in_range routing b.shape (number_of caller) call) none.0) ∙ answers)
       by_refusal (Some refusal) is =
           let replied : r ≡ Refused refusal = ap first_reply (sym answers ∙ (refuses_first b caller call ws refusal is).answers) in
-          sym (ap (did_publish call) replied ∙ refused_publishes call refusal)
+          sym (ap (did_publish call) replied ∙ (grind arith))
 
 pub steps_show_publications : StepsShowPublications
 steps_show_publications b e c step = shows b e.caller step.wishes e.call e.reply step.replied
 
 -- ---- the registry is reached
-
-reaches_in_range : (b : Board) (n : ℕ) (call : Call) → does_publish b call ≡ true → of_call of_acknowledge_each (routing_of_registry b.registry b.shape.tick) b.shape b n call Registry ≡ true
-reaches_in_range b n call h1 = grind arith
 
 pub publications_reach_the_registry : PublicationsReachTheRegistry
 publications_reach_the_registry b caller call = by_refusal (refusal_of b call) refl
@@ -90,7 +83,7 @@ publications_reach_the_registry b caller call = by_refusal (refusal_of b call) r
     by_refusal : (refused : Option Refusal) → refusal_of b call ≡ refused → publishes_unless refused b call ≡ true → reach b caller call Registry ≡ true
     by_refusal None is publishes =
         ap (λ o. not (is_some o) && of_call of_acknowledge_each (routing_of_registry b.registry b.shape.tick) b.shape b (number_of caller) call Registry) (none_of_both (range_reasons b.shape call) (later_reasons b call) is).0
-        ∙ reaches_in_range b (number_of caller) call publishes
+        ∙ (grind (arith, publishes))
     by_refusal (Some refusal) is publishes = cc
 
 -- ---- the frame

@@ -96,15 +96,12 @@ module _ (routing : Routing) (shape : Shape) (q : Part) where
 
   -- ---- accesses to the pair
 
-  alike_but_pic : (b : Board) (pic : PicPart) → Alike (with_part b Pic pic) b
-  alike_but_pic b pic = record { registry = refl; reinjects = refl; pending = refl; ioapic = refl; heard = λ n. refl }
-
   -- the pair is written, and pins are acknowledged
   written_reach : (pic : PicPart) (acked : List Pin) (b : Board) (ws : Wishes) → (is_same Pic q || (is_same Pic q || reaches (acknowledge_each routing shape acked) (with_part b Pic pic) ws q))
       ≡ (is_same Pic q || acks.of_acknowledge_each routing shape b acked q)
   written_reach pic acked b ws =
       twice (is_same Pic q) _
-      ∙ ap (λ x. is_same Pic q || x) (each_reach routing shape acked (with_part b Pic pic) ws q ∙ each_same routing shape acked (with_part b Pic pic) b q (alike_but_pic b pic))
+      ∙ ap (λ x. is_same Pic q || x) (each_reach routing shape acked (with_part b Pic pic) ws q ∙ each_same routing shape acked (with_part b Pic pic) b q (record { registry = refl; reinjects = refl; pending = refl; ioapic = refl; heard = λ n. refl }))
 
   -- and then there is a reply
   pub answered_reach : (pic : PicPart) (acked : List Pin) (r : Reply) (b : Board) (ws : Wishes) → (is_same Pic q || (is_same Pic q || reaches (acknowledge_each routing shape acked >> reply r) (with_part b Pic pic) ws q))

@@ -100,14 +100,11 @@ module _ (routing : Routing) (shape : Shape) (q : Part) where
   -- the pair gives, or the local APIC does
   given_reach : (n : ℕ) (apic : LocalApic) (b : Board) (ws : Wishes) → (is_same (Lapic n) q || reaches (give_of_pair routing shape n apic) b ws q)
       ≡ (is_same (Lapic n) q || (is_same Pic q || (has_output (pair_of b.pic) && table.of_cycle acks.of_acknowledge_each routing shape b q)))
-  given_reach n apic b ws = elim (has_output (pair_of b.pic)) as (λ t. (is_same (Lapic n) q || (is_same Pic q || reaches (if t then made else give n apic) b ws q))
+  given_reach n apic b ws = elim (has_output (pair_of b.pic)) as (λ t. (is_same (Lapic n) q || (is_same Pic q || reaches (if t then (cycle_made routing shape b.pic (cycle (pair_of b.pic)) (Extint (cycle (pair_of b.pic)).vector)) else give n apic) b ws q))
       ≡ (is_same (Lapic n) q || (is_same Pic q || (t && table.of_cycle acks.of_acknowledge_each routing shape b q)))) [
         | true ↦ ap (λ x. is_same (Lapic n) q || x) (answered_reach routing shape q (with_pair b.pic (cycle (pair_of b.pic)).after) (cycle_pins (cycle (pair_of b.pic)).pins) (Extint (cycle (pair_of b.pic)).vector) b ws)
         | false ↦ last_again (is_same (Lapic n) q) (is_same Pic q)
       ]
-    where
-      made : Plan (Unit {0})
-      made = cycle_made routing shape b.pic (cycle (pair_of b.pic)) (Extint (cycle (pair_of b.pic)).vector)
 
   ack_reach : (n : ℕ) (b : Board) (ws : Wishes) → reaches (plan_in_range routing shape n Call.Ack) b ws q ≡ table.of_ack acks.of_acknowledge_each routing shape b n (part_of b (Lapic n)) q
   ack_reach n b ws = by_tests (part_of b (Lapic n)).nmi (hears_pair n (part_of b (Lapic n)))

@@ -39,16 +39,13 @@ none_of : (q : Part) → ((n : ℕ) → is_same (Lapic n) q ≡ false) → (ns :
 none_of q other [] = refl
 none_of q other (n ∷ ns) = (λ i. other n i || is_of_one ns q) ∙ none_of q other ns
 
-taken_none : (a b : Bool) → b ≡ false → (a && b) ≡ false
-taken_none a b h1 = grind arith
-
 module _ (cpus : ℕ) (message : Message) (about : About) (b : Board) (ws : Wishes) where
   abbrev pub sent_board : Board
   sent_board = (run (send cpus message None about) b ws).board
 
   sent_stays : (q : Part) → ((n : ℕ) → is_same (Lapic n) q ≡ false) → part_of sent_board q ≡ part_of b q
   sent_stays q other = unreached_stays (send cpus message None about) b ws q
-      (sends_reach cpus message None about b ws q ∙ taken_none (is_taken message.mode) _ (none_of q other (reached_by message None cpus)))
+      (sends_reach cpus message None about b ws q ∙ (grind (arith, (none_of q other (reached_by message None cpus)))))
 
   pub sent_registry : sent_board.registry ≡ b.registry
   sent_registry = sent_stays Registry (λ n. refl)

@@ -60,16 +60,13 @@ module _ (routing : Routing) (shape : Shape) (tells : TellsPins routing shape) w
   second_of_both : (a c : Bool) → (a && c) ≡ true → c ≡ true
   second_of_both a c h1 = grind arith
 
-  turned : (t : Bool) → not t ≡ true → t ≡ false
-  turned t h1 = grind arith
-
   module _ (f : ℕ → Bool) where
     each_apart : (a : ℕ) (ns : List ℕ) → are_others a ns ≡ true → EachApart routing shape (Pin.Ioapic a) (map Pin.Ioapic (filter f ns))
     each_apart a [] h = tt
     each_apart a (n ∷ ns) h =
         let rest = each_apart a ns (second_of_both (not (nat_eq a n)) (are_others a ns) h) in
         elim (f n) as (λ t. EachApart routing shape (Pin.Ioapic a) (map Pin.Ioapic (cond t (n ∷ filter f ns) (filter f ns)))) [
-          | true ↦ (ioapic_apart a n (turned (nat_eq a n) (first_of_both (not (nat_eq a n)) (are_others a ns) h)), rest)
+          | true ↦ (ioapic_apart a n (grind (arith, (first_of_both (not (nat_eq a n)) (are_others a ns) h))), rest)
           | false ↦ rest
         ]
 
@@ -139,14 +136,8 @@ module _ (routing : Routing) (shape : Shape) (tells : TellsPins routing shape) (
   counter_now : (trigger : Option TriggerWord) → table.of_counter of_acknowledge_each routing shape b trigger q ≡ table.of_counter of_acknowledges_now routing shape b trigger q
   counter_now trigger = grind arith
 
-  rung_now : (counter : Option ℕ) → table.of_rung of_acknowledge_each routing shape b counter q ≡ table.of_rung of_acknowledges_now routing shape b counter q
-  rung_now counter = grind arith
-
   ring_now : (space : Space) (address len value : ℕ) → table.of_ring of_acknowledge_each routing shape b space address len value q ≡ table.of_ring of_acknowledges_now routing shape b space address len value q
-  ring_now space address len value = ap (λ t. is_same Registry q || t) (rung_now (rung_by b.registry.ioevents space address len value))
-
-  write_now : (trigger : Option TriggerWord) (count : ℕ) → table.of_write of_acknowledge_each routing shape b trigger count q ≡ table.of_write of_acknowledges_now routing shape b trigger count q
-  write_now trigger count = grind arith
+  ring_now space address len value = ap (λ t. is_same Registry q || t) (grind arith)
 
   written_now : (part : IoapicPart) (after : IoapicChip) (pin : Option ℕ) → table.of_written of_acknowledge_each routing shape part (record { after = after; pin = pin }) q ≡ table.of_written of_acknowledges_now routing shape part (record { after = after; pin = pin }) q
   written_now part after pin = grind arith
@@ -166,12 +157,9 @@ module _ (routing : Routing) (shape : Shape) (tells : TellsPins routing shape) (
   ack_now : (n : ℕ) (apic : LocalApic) → table.of_ack of_acknowledge_each routing shape b n apic q ≡ table.of_ack of_acknowledges_now routing shape b n apic q
   ack_now n apic = ap (λ t. is_same (Lapic n) q || ((not apic.nmi && hears_pair n apic) && (is_same Pic q || (has_output (pair_of b.pic) && t)))) cycle_now
 
-  release_now : (rows : List Irqfd) (trigger gsi : ℕ) (row : Option Irqfd) → table.does_release of_acknowledge_each routing shape rows trigger gsi row ≡ table.does_release of_acknowledges_now routing shape rows trigger gsi row
-  release_now rows trigger gsi row = grind arith
-
   call_now : (n : ℕ) (call : Call) → table.of_call of_acknowledge_each routing shape b n call q ≡ table.of_call of_acknowledges_now routing shape b n call q
-  call_now n (Call.Write counter count) = write_now (routing.trigger counter) count
-  call_now n (Call.Deassign trigger gsi) = ap (λ t. is_same Registry q || (t && of_fall (routing.targets gsi) q)) (release_now b.registry.irqfds trigger gsi (named_row b.registry.irqfds trigger gsi))
+  call_now n (Call.Write counter count) = grind arith
+  call_now n (Call.Deassign trigger gsi) = ap (λ t. is_same Registry q || (t && of_fall (routing.targets gsi) q)) (grind arith)
   call_now n (Call.PortOut port len value) =
       λ i. if is_port port then pair_now len (pair_write_to (pair_of b.pic) port value).pin i else ring_now Space.Port port len value i
   call_now n (Call.PortIn port len) = λ i. if is_port port then pair_now len (pair_read_from (pair_of b.pic) port).pin i else false

@@ -18,21 +18,15 @@ below_at zero n = none n
     none : (n : ℕ) → nat_lt n 0 ≡ false
     none n = grind (arith, nat_tests)
 below_at (suc cpus) n =
-    step n cpus ∙ ap (λ t. t || (nat_eq cpus n || false)) (below_at cpus n) ∙ sym (any_more (λ m. is_same (Lapic m) (Lapic n)) (numbers_below cpus) (cpus ∷ []))
-  where
-    step : (n cpus : ℕ) → nat_lt n (suc cpus) ≡ (nat_lt n cpus || (nat_eq cpus n || false))
-    step n cpus = grind (arith, nat_tests)
+    (grind (arith, nat_tests)) ∙ ap (λ t. t || (nat_eq cpus n || false)) (below_at cpus n) ∙ sym (any_more (λ m. is_same (Lapic m) (Lapic n)) (numbers_below cpus) (cpus ∷ []))
 
 pub or_none : (a : Bool) → a ≡ (a || false)
 or_none true = refl
 or_none false = refl
 
 pub only_at : (m cpus n : ℕ) → (nat_eq m n && nat_lt n cpus) ≡ is_of_one (only m cpus) (Lapic n)
-only_at m cpus n = tests m n cpus (nat_lt m cpus) refl ∙ shown (nat_lt m cpus)
+only_at m cpus n = (grind (arith, nat_tests, refl)) ∙ shown (nat_lt m cpus)
   where
-    tests : (m n cpus : ℕ) (t : Bool) → nat_lt m cpus ≡ t → (nat_eq m n && nat_lt n cpus) ≡ (t && nat_eq m n)
-    tests m n cpus t is = grind (arith, nat_tests, is)
-
     shown : (t : Bool) → (t && nat_eq m n) ≡ is_of_one (if t then m ∷ [] else []) (Lapic n)
     shown true = or_none (nat_eq m n)
     shown false = refl

@@ -14,12 +14,6 @@ empty_is = grind (len-empty nat_cmp, arith)
 none_wished : wish_of nobody ≡ []
 none_wished = ap (λ t. if t then (if t then [] else reached nobody ∷ []) else reached nobody ∷ []) empty_is
 
-same_twice : (t : Bool) → (t || t) ≡ t
-same_twice t = grind arith
-
-nobody_twice : union {R = nat_cmp} empty empty ≡ empty
-nobody_twice = same_set nat_cmp_total nat_cmp-IsAntisymmetric _ _ (λ q. contains-union nat_cmp_total _ _ q ∙ same_twice (contains {R = nat_cmp} empty q))
-
 pub was_empty : (s : Numbers) → is_empty s ≡ true → s ≡ empty
 was_empty s h = empty_of_len s (grind (h, arith))
 
@@ -27,7 +21,7 @@ pub wished : (s : Sent) → is_empty (reached s) ≡ false → wish_of s ≡ rea
 wished s somebody = elim (is_empty s.new) as (λ t. is_empty s.new ≡ t → (if t then (if is_empty s.stood then [] else reached s ∷ []) else reached s ∷ []) ≡ reached s ∷ []) [
   | true ↦ λ no_new. elim (is_empty s.stood) as (λ t. is_empty s.stood ≡ t → (if t then [] else reached s ∷ []) ≡ reached s ∷ []) [
     | true ↦ λ none_stood. absurd (true≢false (
-        sym (ap (λ n. is_empty (union n s.stood)) (was_empty s.new no_new) ∙ ap (λ n. is_empty (union empty n)) (was_empty s.stood none_stood) ∙ ap is_empty nobody_twice ∙ empty_is)
+        sym (ap (λ n. is_empty (union n s.stood)) (was_empty s.new no_new) ∙ ap (λ n. is_empty (union empty n)) (was_empty s.stood none_stood) ∙ ap is_empty (same_set nat_cmp_total nat_cmp-IsAntisymmetric _ _ (λ q. contains-union nat_cmp_total _ _ q ∙ (grind arith))) ∙ empty_is)
         ∙ somebody))
     | false ↦ λ _. refl
   ] refl
@@ -70,11 +64,9 @@ module _ (w : Manner) where
   answered_replies x l none r = record { events = r.events; answers = ap (λ ws. ws ++ wishes_replied l.answers) (reply_none x none) ∙ r.answers }
 
   module _ (m : Heading) (s : Sent) (l : Log) (somebody : is_empty (reached s) ≡ false) where
-    shows : (pic : Option TargetAnswer) → wish_of (sets_of (status_sent pic s)) ≡ reached s ∷ []
-    shows pic = ap wish_of (sets-sent pic s) ∙ wished s somebody
 
     first : (pic : Option TargetAnswer) (vs us : Wishes) → vs ≡ us → wish_of (sets_of (status_sent pic s)) ++ vs ≡ reached s ∷ us
-    first pic vs us same = ap (λ ws. ws ++ vs) (shows pic) ∙ ap (λ ws. reached s ∷ ws) same
+    first pic vs us same = ap (λ ws. ws ++ vs) (ap wish_of (sets-sent pic s) ∙ wished s somebody) ∙ ap (λ ws. reached s ∷ ws) same
 
     sent_events : w.replies ≡ false → (about : About) → shows_there w about ≡ true → InEvents l → InEvents (sending m about s l)
     sent_events there (injected gsi pic) place r = record { events = first pic (wishes_told l.events) (shown_wishes l.sendings) r.events; answers = r.answers }

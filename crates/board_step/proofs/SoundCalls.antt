@@ -45,9 +45,6 @@ write_length io offset value =
       ]
     ]
 
-not_over : (a x : ℕ) → nat_lt a x ≡ false → x ≤ a
-not_over a x e = grind arith
-
 module _ (r : RegistryPart) (shape : Shape) (bound : ℕ) where
   -- that each part is as a sound board with this registry has it
   abbrev pub sound : Walk
@@ -104,7 +101,7 @@ module _ (r : RegistryPart) (shape : Shape) (bound : ℕ) where
       gives = λ n b each. let a : LocalApic = part_of b (Part.Lapic n) in fits (Part.Lapic n) (given a (giveable_of a)) b each (given_number a (giveable_of a) ∙ each (Part.Lapic n));
       rung = λ counter none b each. fits Part.Counters (signalled b.counters counter) b each (counts_signalled r shape.counters b.counters counter (each Part.Counters) (no_irqfd r.irqfds counter none));
       counts = λ counter n none b each fits_in. fits Part.Counters (written b.counters counter n) b each
-          (counts_written r shape.counters b.counters counter (slice_index b.counters counter + n) (each Part.Counters) (no_irqfd r.irqfds counter none) (not_over (2 ^ 64 - 2) (slice_index b.counters counter + n) (no_reason (nat_lt (2 ^ 64 - 2) (slice_index b.counters counter + n)) Over [] fits_in).0));
+          (counts_written r shape.counters b.counters counter (slice_index b.counters counter + n) (each Part.Counters) (no_irqfd r.irqfds counter none) (grind (arith, (no_reason (nat_lt (2 ^ 64 - 2) (slice_index b.counters counter + n)) Over [] fits_in).0)));
       takes = λ counter b each. fits Part.Counters (taken b.counters counter) b each (counts_taken r shape.counters b.counters counter (each Part.Counters));
       modes = λ reinject b each. fits Part.Tick (in_mode reinject) b each (omega arith);
     }

@@ -41,9 +41,6 @@ less_of a b e = grind arith
 turned_one : (a b : ℕ) → nat_eq a b ≡ false → nat_eq b a ≡ false
 turned_one a b e = grind arith
 
-turned : (a b c d : ℕ) → (nat_eq c a && nat_eq d b) ≡ false → (nat_eq a c && nat_eq b d) ≡ false
-turned a b c d h1 = grind arith
-
 -- a test of an element more, which it fails
 none_more : {X : Type 0} (p : X → Bool) (xs : List X) (x : X) → list_any p xs ≡ false → p x ≡ false → list_any p (xs ++ x ∷ []) ≡ false
 none_more p xs x none off = list_any-append p xs (x ∷ []) ∙ or_both (list_any p xs) (p x || false) none (or_both (p x) false off refl)
@@ -119,7 +116,7 @@ module _ (shape : Shape) (bound : ℕ) (b : Board) (ws : Wishes) (w : Whole shap
       with_watches (rows ++ row ∷ [])
       (All-push (WatchFits shape.counters) rows row w.fine.named.watches (record { counter = below; gsi = low }))
       (pairs_push (λ (row other : Watch). is_named_watch row.counter row.gsi other ≡ false) rows row w.fine.distinct.watches
-      (All-weaker (λ (other : Watch). is_named_watch counter gsi other ≡ false) (λ (other : Watch). is_named_watch other.counter other.gsi row ≡ false) (λ other off. turned counter gsi other.counter other.gsi off) rows (each_fails (is_named_watch counter gsi) rows there.0)))
+      (All-weaker (λ (other : Watch). is_named_watch counter gsi other ≡ false) (λ (other : Watch). is_named_watch other.counter other.gsi row ≡ false) (λ other off. (grind (arith, off))) rows (each_fails (is_named_watch counter gsi) rows there.0)))
       (omega (arith, length-append rows (row ∷ []), full))
       (roles_more (λ n. list_any (has_resample n) b.registry.irqfds) rows row b.registry.irqfds w.fine.distinct.roles (each_fails (has_trigger counter) b.registry.irqfds clash.0)))
 
@@ -142,9 +139,6 @@ written_zero [] i y e = cc
 written_zero (x ∷ xs) zero y e = cc
 written_zero (x ∷ xs) (suc i) y e = written_zero xs i y e
 
-or_found : (a b : Bool) → (a || b) ≡ true → b ≡ false → a ≡ true
-or_found a b h1 h2 = grind arith
-
 or_there : (a b : Bool) → b ≡ true → (a || b) ≡ true
 or_there a b h1 = grind arith
 
@@ -157,10 +151,7 @@ own_row r row is = list_any-append (resamples row.gsi) r.irqfds (row ∷ []) ∙
 
 -- a GSI with a resampler has one with a row more
 pub more_resampler : (r : RegistryPart) (row : Irqfd) (pin : Pin) → HasResampler r pin → HasResampler (record r { irqfds = r.irqfds ++ row ∷ [] }) pin
-more_resampler r row pin h = record { gsi = h.gsi; named = h.named; resamples = list_any-append (resamples h.gsi) r.irqfds (row ∷ []) ∙ or_here (has_resampler r.irqfds h.gsi) (list_any (resamples h.gsi) (row ∷ [])) h.resamples }
-  where
-    or_here : (a b : Bool) → a ≡ true → (a || b) ≡ true
-    or_here a b h1 = grind arith
+more_resampler r row pin h = record { gsi = h.gsi; named = h.named; resamples = list_any-append (resamples h.gsi) r.irqfds (row ∷ []) ∙ (grind (arith, h.resamples)) }
 
 -- a row is there, and the count of its trigger is 0
 assigned_each : (shape : Shape) (bound : ℕ) (r : RegistryPart) (row : Irqfd) (b : Board) → Each r shape bound b → Each (record r { irqfds = r.irqfds ++ row ∷ [] }) shape bound (record b { registry = record r { irqfds = r.irqfds ++ row ∷ [] }; counters = taken b.counters row.trigger })
@@ -170,7 +161,7 @@ assigned_each shape bound r row b each Part.Counters = record {
   greatest = stands.greatest;
   triggers = λ counter count on at. elim (eqb_tells row.trigger counter) [
     | inl h ↦ written_zero b.counters row.trigger count (subst (λ n. slice_get (taken b.counters row.trigger) n ≡ Some count) (sym h.1) at)
-    | inr h ↦ stands.triggers counter count (or_found (is_trigger r counter) (nat_eq row.trigger counter || false) (sym (list_any-append (has_trigger counter) r.irqfds (row ∷ [])) ∙ on) (or_both (nat_eq row.trigger counter) false h.0 refl)) at
+    | inr h ↦ stands.triggers counter count (grind (arith, (sym (list_any-append (has_trigger counter) r.irqfds (row ∷ [])) ∙ on), (or_both (nat_eq row.trigger counter) false h.0 refl))) at
   ];
 }
   where

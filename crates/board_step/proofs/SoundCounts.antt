@@ -32,10 +32,7 @@ no_trigger : (r : RegistryPart) (c x : ℕ) → is_trigger r c ≡ false → IsT
 no_trigger r c x off on = absurd (true≢false (sym on ∙ off))
 
 pub counts_signalled : (r : RegistryPart) (many : ℕ) (counts : List ℕ) (c : ℕ) → CountsFine r many counts → is_trigger r c ≡ false → CountsFine r many (signalled counts c)
-counts_signalled r many counts c s off = count_set r many counts c _ s (stops (slice_index counts c + 1)) (no_trigger r c _ off)
-  where
-    stops : (n : ℕ) → min n (2 ^ 64 - 2) ≤ 2 ^ 64 - 2
-    stops n = omega arith
+counts_signalled r many counts c s off = count_set r many counts c _ s (omega arith) (no_trigger r c _ off)
 
 -- none of these counters is a trigger
 abbrev pub NoTriggers : RegistryPart → List ℕ → Type 0

@@ -30,11 +30,8 @@ was_held holds k h held = second_so _ _ (sym (contains-remove hold_cmp_total hol
 
 -- what was removed is not there
 pub not_removed : (holds : Holds) (k : Hold) → IsTrue (contains (remove holds k) k) → ⊥
-not_removed holds k held = absurd (differs (eq_by_cmp hold_cmp k k) (contains holds k) (itself k) (sym (contains-remove hold_cmp_total holds k k) ∙ held))
+not_removed holds k held = absurd (differs (eq_by_cmp hold_cmp k k) (contains holds k) (ap is_eq (tied_itself hold_cmp_total k)) (sym (contains-remove hold_cmp_total holds k k) ∙ held))
   where
-    itself : (h : Hold) → eq_by_cmp hold_cmp h h ≡ true
-    itself h = ap is_eq (tied_itself hold_cmp_total h)
-
     differs : (a b : Bool) → a ≡ true → (not a && b) ≡ true → ⊥
     differs true b e f = cc
     differs false b e f = cc

@@ -25,9 +25,6 @@ freed_held : (holds : Holds) (pin : Option ℕ) (h : Hold) → IsTrue (contains 
 freed_held holds None h held = held
 freed_held holds (Some pin) h held = was_held holds (hold pin Resample) h held
 
-freed_other : (holds : Holds) (pin : Option ℕ) (n : ℕ) → pin ≡ Some n → IsTrue (contains (freed holds pin) (hold n Resample)) → ⊥
-freed_other holds pin n e held = not_removed holds (hold n Resample) (subst (λ o. IsTrue (contains (freed holds o) (hold n Resample))) e held)
-
 is_one : (o : Option ℕ) (n : ℕ) → is_same o (Some n) ≡ true → o ≡ Some n
 is_one None n e = absurd (true≢false (sym e))
 is_one (Some k) n e = ap Some ((unsigned_Decides k n).0 e)
@@ -37,7 +34,7 @@ pub freed_for : (r s : RegistryPart) (holds : Holds) (chip : ℕ → Pin) (pin :
 freed_for r s holds chip pin gsi stands own others n held =
     let h = stands n (freed_held holds pin (hold n Resample) held) in
     elim (eqb_tells h.gsi gsi) [
-      | inl e ↦ absurd (freed_other holds pin n (own n (h.named ∙ ap Some e.1)) held)
+      | inl e ↦ absurd (not_removed holds (hold n Resample) (subst (λ o. IsTrue (contains (freed holds o) (hold n Resample))) (own n (h.named ∙ ap Some e.1)) held))
       | inr e ↦ others n h e.1
     ]
 

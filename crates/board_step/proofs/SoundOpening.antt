@@ -22,17 +22,11 @@ mapped (k ∷ ks) n = ap (λ l. power_on k ∷ l) (mapped ks n)
 
 pub apics_many : (k : ℕ) → length (map power_on (numbers_below k)) ≡ k
 apics_many zero = refl
-apics_many (suc k) = ap length (mapped (numbers_below k) k) ∙ length-append (map power_on (numbers_below k)) (power_on k ∷ []) ∙ one (length (map power_on (numbers_below k))) (apics_many k)
-  where
-    one : (n : ℕ) → n ≡ k → n + 1 ≡ suc k
-    one n e = omega arith
+apics_many (suc k) = ap length (mapped (numbers_below k) k) ∙ length-append (map power_on (numbers_below k)) (power_on k ∷ []) ∙ (omega (arith, (apics_many k)))
 
 pub apics_numbered : (k : ℕ) → Numbered 0 (map power_on (numbers_below k))
 apics_numbered zero = tt
-apics_numbered (suc k) = subst (Numbered 0) (sym (mapped (numbers_below k) k)) (one_more 0 (map power_on (numbers_below k)) (power_on k) (apics_numbered k) (last (length (map power_on (numbers_below k))) (apics_many k)))
-  where
-    last : (n : ℕ) → n ≡ k → k ≡ 0 + n
-    last n e = omega arith
+apics_numbered (suc k) = subst (Numbered 0) (sym (mapped (numbers_below k) k)) (one_more 0 (map power_on (numbers_below k)) (power_on k) (apics_numbered k) (omega (arith, (apics_many k))))
 
 no_holds : (r : RegistryPart) (count : ℕ) (chip : ℕ → Pin) → HoldsStand r empty count chip
 no_holds r count chip = record {

@@ -15,13 +15,7 @@ wider : (r : RegistryPart) (shape : Shape) (low high : ℕ) (b : Board) → low 
 wider r shape low high b more each Part.Tick = let few : b.tick.pending ≤ low = each Part.Tick in omega (arith, few, more)
 wider r shape low high b more each part = each part
 
-ticked_low : (s : TickState) (bound : ℕ) → s.pending ≤ bound → (ticked s).pending ≤ bound + 1
-ticked_low s bound h1 = grind arith
-
 -- ---- each call
-
-resample_below : (shape : Shape) (resample : Option ℕ) → first_of (bad_resample shape resample) ≡ None → IfSome resample (λ c. c < shape.counters)
-resample_below shape resample h1 = grind arith
 
 module _ (b : Board) (ws : Wishes) (fine : RegistryFine b.shape b.registry) (each : Each b.registry b.shape b.length b) (few : b.shape.counters ≤ 256) where
   abbrev bound : ℕ
@@ -47,7 +41,7 @@ module _ (b : Board) (ws : Wishes) (fine : RegistryFine b.shape b.registry) (eac
   in_range n (Assign trigger gsi resample) typed none =
       let one = no_reason (nat_le b.shape.counters trigger) NoCounter (bad_gsi gsi ∷ bad_resample b.shape resample) none in
       let two = no_reason (nat_le 4096 gsi) NoGsi (bad_resample b.shape resample) one.1 in
-      assign_whole b.shape bound b ws whole trigger gsi resample few (less_of b.shape.counters trigger one.0) (less_of 4096 gsi two.0) (resample_below b.shape resample two.1)
+      assign_whole b.shape bound b ws whole trigger gsi resample few (less_of b.shape.counters trigger one.0) (less_of 4096 gsi two.0) (grind (arith, two.1))
   in_range n (Deassign trigger gsi) typed none = deassign_whole b.shape bound b ws whole trigger gsi
   in_range n (Reroute rows) typed none = reroute_whole b.shape bound b ws whole rows none typed
   in_range n (Attach space address len counter want) typed none =
@@ -61,7 +55,7 @@ module _ (b : Board) (ws : Wishes) (fine : RegistryFine b.shape b.registry) (eac
   in_range n (Unwatch counter gsi) typed none = unwatch_whole b.shape bound b ws whole counter gsi
   in_range n Tick typed none =
       kept_whole b.shape bound b.registry (tick_or_hold routing b.shape (ticked b.tick) (tick_injects b.tick)) (record b { tick = ticked b.tick }) ws fine
-      (tick_or_hold_keeps (ticked b.tick) (tick_injects b.tick)) (each_with b.registry b.shape bound b Part.Tick (ticked b.tick) more (ticked_low b.tick b.length (each Part.Tick)))
+      (tick_or_hold_keeps (ticked b.tick) (tick_injects b.tick)) (each_with b.registry b.shape bound b Part.Tick (ticked b.tick) more (grind (arith, (each Part.Tick))))
   in_range n call typed none = plain n call refl
 
   call_whole : (caller : Caller) (call : Call) → IsTyped call → Whole b.shape bound (run (plan_on b caller call) b ws).board

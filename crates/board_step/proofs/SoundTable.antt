@@ -43,10 +43,7 @@ fits : (row : Row) → PayloadFits row → fits_if (msi_in row) ≡ true
 unfolding msi_in
 fits (Pic gsi pin) e = refl
 fits (Ioapic gsi pin) e = refl
-fits (Msi gsi address payload) e = is_less payload (2 ^ 32) e
-  where
-    is_less : (a b : ℕ) → a < b → nat_lt a b ≡ true
-    is_less a b e = grind (arith, nat_tests)
+fits (Msi gsi address payload) e = grind (arith, nat_tests, e)
 
 made_after : (earlier rows : List Row) → Made earlier → first_of (reasons_after earlier rows) ≡ None → All PayloadFits rows → Made (earlier ++ rows)
 unfolding reasons_after

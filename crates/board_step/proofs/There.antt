@@ -12,9 +12,6 @@ and_false a b h1 = grind arith
 if_false : (t a b : Bool) → a ≡ false → b ≡ false → (if t then a else b) ≡ false
 if_false t a b h1 h2 = grind arith
 
-apart : (m n cpus : ℕ) → nat_lt m cpus ≡ true → cpus ≤ n → nat_eq m n ≡ false
-apart m n cpus low far = grind arith
-
 -- n is past the processors
 module _ (n cpus : ℕ) (far : cpus ≤ n) where
   -- ---- messages
@@ -24,10 +21,7 @@ module _ (n cpus : ℕ) (far : cpus ≤ n) where
 
   misses_both : (ms ns : List ℕ) → Misses ms → Misses ns → Misses (ms ++ ns)
   misses_both [] ns h k = k
-  misses_both (m ∷ ms) ns h k = by_first (nat_eq m n) (misses_both ms ns) h
-    where
-      by_first : (t : Bool) → (Misses ms → Misses ns → Misses (ms ++ ns)) → (t || is_of_one ms (Lapic n)) ≡ false → (t || is_of_one (ms ++ ns) (Lapic n)) ≡ false
-      by_first t h1 h2 = grind arith
+  misses_both (m ∷ ms) ns h k = grind (arith, (misses_both ms ns), h)
 
   misses_below : (k : ℕ) → k ≤ n → Misses (numbers_below k)
   misses_below zero low = refl
@@ -37,7 +31,7 @@ module _ (n cpus : ℕ) (far : cpus ≤ n) where
   misses_only m = by_test (nat_lt m cpus) refl
     where
       by_test : (t : Bool) → nat_lt m cpus ≡ t → Misses (if t then m ∷ [] else [])
-      by_test true low = or_false (nat_eq m n) false (apart m n cpus low far) refl
+      by_test true low = or_false (nat_eq m n) false (grind (arith, low, far)) refl
       by_test false low = refl
 
   misses_destination : (message : Message) → Misses (reached_by_destination message cpus)
@@ -63,9 +57,6 @@ module _ (n cpus : ℕ) (far : cpus ≤ n) where
   far_pic : (pin : Option ℕ) → of_pin pin Pic (Lapic n) ≡ false
   far_pic pin = grind arith
 
-  far_ioapic : (pin : Option ℕ) → of_pin pin Ioapic (Lapic n) ≡ false
-  far_ioapic pin = grind arith
-
   far_answer : (answer : Raise) → of_answer answer cpus (Lapic n) ≡ false
   far_answer (Raise.Send message) = far_message message None
   far_answer _ = refl
@@ -79,16 +70,13 @@ module _ (n cpus : ℕ) (far : cpus ≤ n) where
   far_raise b targets = or_false (of_pin targets.pic Pic (Lapic n)) _ (far_pic targets.pic) (far_other b targets.ioapic targets.msi)
 
   far_fall : (targets : Targets) → of_fall targets (Lapic n) ≡ false
-  far_fall targets = or_false (of_pin targets.pic Pic (Lapic n)) _ (far_pic targets.pic) (far_ioapic targets.ioapic)
+  far_fall targets = or_false (of_pin targets.pic Pic (Lapic n)) _ (far_pic targets.pic) (grind arith)
 
 module _ (routing : Routing) (shape : Shape) (n : ℕ) (far : shape.cpus ≤ n) where
   far_gsi : (b : Board) (gsi : ℕ) → of_gsi routing shape b gsi (Lapic n) ≡ false
   far_gsi b gsi = far_raise n shape.cpus far b (routing.targets gsi)
 
   -- ---- acknowledges
-
-  far_marked : (gsi : Option ℕ) → of_marked routing shape gsi (Lapic n) ≡ false
-  far_marked gsi = grind arith
 
   far_resend : (message : Option Message) → of_resend routing shape message (Lapic n) ≡ false
   far_resend None = refl
@@ -105,7 +93,7 @@ module _ (routing : Routing) (shape : Shape) (n : ℕ) (far : shape.cpus ≤ n) 
   far_acknowledge : (b : Board) (pin : Pin) → of_acknowledge routing shape b pin (Lapic n) ≡ false
   far_acknowledge b pin =
       let gsi = routing.gsi_of pin in
-      or_false (of_marked routing shape gsi (Lapic n)) _ (far_marked gsi)
+      or_false (of_marked routing shape gsi (Lapic n)) _ (grind arith)
       (or_false _ _ (far_level (board_by (tell_concerned routing gsi) b) pin) (far_tick (board_by (tell_concerned routing gsi >> end_level shape.cpus pin) b) gsi))
 
   far_each : (b : Board) (acked : List Pin) → of_acknowledge_each routing shape b acked (Lapic n) ≡ false

@@ -60,16 +60,13 @@ module _ (P : Board → Type 0) where
       pub tick_kept : (about : Option TargetAnswer → About) → Holds walk (inject_tick routing shape about)
       tick_kept about = inject_tick_holds walk routing shape signals k.ticks k.falls about (λ pic. shows k.signals (about pic))
 
-      tells : Tells walk
-      tells = tells_by walk (λ counter b ws fit. fit) (λ counter b ws fit. fit) k.resamples k.notifies
-
       ends : Ends walk routing shape
       ends = record { levels = end_level_holds walk shape.cpus signals (λ pin. shows k.signals (resent pin)) k.clears; frees = k.frees; ticks = tick_kept (λ pic. injected shape.tick pic) }
 
       pub calls_kept : Plain walk routing shape
       calls_kept = record {
         accesses = record {
-          acks = acks_hold walk routing shape (λ pin b ws fit. fit) signals tells ends;
+          acks = acks_hold walk routing shape (λ pin b ws fit. fit) signals (tells_by walk (λ counter b ws fit. fit) (λ counter b ws fit. fit) k.resamples k.notifies) ends;
           replies = λ r plain b ws fit. fit;
           resends = λ pin message. resend_holds walk shape.cpus signals pin (shows k.signals (resent pin)) message;
           ipis = (shows k.signals ipi).sends;

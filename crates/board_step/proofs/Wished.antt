@@ -2,13 +2,6 @@
 use Rattle.board_step.proofs.Basics.{◌≡◌, ◌≤◌, Bool, true, false, ◌||◌, [], ◌∷◌, length, refl, sym, ap, ◌∙◌, if◌then◌else◌, arith, contains-union, contains-empty, same_set, nat_cmp-IsAntisymmetric, nat_cmp, nat_cmp_total, Numbers, Event, Sent, is_empty, reached, wish_of, wish_shown, contains, empty}
 use Rattle.board_step.proofs.Shown.{empty_is, was_empty, wished}
 
--- nobody is in one of two sets where nobody is in both together
-left_false : (s t : Bool) → (s || t) ≡ false → s ≡ false
-left_false s t h1 = grind arith
-
-right_false : (s t : Bool) → (s || t) ≡ false → t ≡ false
-right_false s t h1 = grind arith
-
 no_member : (s : Numbers) → ((n : _) → contains s n ≡ false) → s ≡ empty
 no_member s none = same_set nat_cmp_total nat_cmp-IsAntisymmetric _ _ (λ n. none n ∙ sym (contains-empty nat_cmp n))
 
@@ -19,9 +12,9 @@ module _ (s : Sent) (nobody_is : reached s ≡ empty) where
   -- no choice shows where nobody was reached
   pub unwished : wish_of s ≡ []
   unwished =
-      (λ i. if is_empty (no_member s.new (λ n. left_false (contains s.new n) (contains s.stood n) (none n)) i) then (if is_empty s.stood then [] else reached s ∷ []) else reached s ∷ [])
+      (λ i. if is_empty (no_member s.new (λ n. (grind (arith, (none n)))) i) then (if is_empty s.stood then [] else reached s ∷ []) else reached s ∷ [])
       ∙ ap (λ t. if t then (if is_empty s.stood then [] else reached s ∷ []) else reached s ∷ []) empty_is
-      ∙ (λ i. if is_empty (no_member s.stood (λ n. right_false (contains s.new n) (contains s.stood n) (none n)) i) then [] else reached s ∷ [])
+      ∙ (λ i. if is_empty (no_member s.stood (λ n. (grind (arith, (none n)))) i) then [] else reached s ∷ [])
       ∙ ap (λ t. if t then [] else reached s ∷ []) empty_is
 
 -- some choice shows where somebody was reached
@@ -31,12 +24,8 @@ somebody s n is never = elim (is_empty (reached s)) as (λ t. is_empty (reached 
   | false ↦ λ some. wished s some ∙ ap (λ x. x ∷ []) (sym is)
 ] refl
 
--- one choice at most
-few : (t u : Bool) (n : Numbers) → length (if t then (if u then [] else n ∷ []) else n ∷ []) ≤ 1
-few t u n = grind arith
-
 wish_few : (s : Sent) → length (wish_of s) ≤ 1
-wish_few s = few (is_empty s.new) (is_empty s.stood) (reached s)
+wish_few s = grind arith
 
 pub event_few : (x : Event) → length (wish_shown x) ≤ 1
 event_few x = grind arith
