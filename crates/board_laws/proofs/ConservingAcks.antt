@@ -207,9 +207,6 @@ conserving tick rings may = of_relation (record {
 tick_injected_same : (s : TickState) (status : Status) → ((tick_injected s status).reinjects ≡ s.reinjects) × ((tick_injected s status).pending ≡ s.pending)
 tick_injected_same s status = elim s.reinjects as (λ t. ((if t then record s { free = is_ignored status } else s).reinjects ≡ s.reinjects) × ((if t then record s { free = is_ignored status } else s).pending ≡ s.pending)) [ true ↦ (refl, refl) | false ↦ (refl, refl) ]
 
-tick_acked_same : (s : TickState) → (tick_acked s).reinjects ≡ s.reinjects
-tick_acked_same s = elim s.reinjects as (λ t. (if t then record s { pending = s.pending - 1; free = true } else s).reinjects ≡ s.reinjects) [ true ↦ refl | false ↦ refl ]
-
 tick_acked_less : (s : TickState) → s.reinjects ≡ true → (tick_acked s).pending ≡ s.pending - 1
 tick_acked_less s on = ap (λ t. (if t then record s { pending = s.pending - 1; free = true } else s).pending) on
 
@@ -243,7 +240,7 @@ module _ (routing : Routing) (shape : Shape) (rings : Bool) where
   end_tick_conserving : (pin : Pin) (gsi : Option ℕ) → Conserving shape.tick rings (λ _. true) (is_ack_of shape.tick (Acked pin gsi)) (end_tick routing shape gsi)
   end_tick_conserving pin None = nothing_conserving shape.tick rings (λ _. true)
   end_tick_conserving pin (Some gsi) = elim (nat_eq gsi shape.tick) as (λ t. Conserving shape.tick rings (λ _. true) (if t then 1 else 0) (if t then acknowledge_tick routing shape else done tt)) [
-    | true ↦ λ b ws. put_conserves shape.tick rings (λ _. true) 1 (inject_next routing shape (ack_injects b.tick)) b (tick_acked b.tick) ws (tick_acked_same b.tick) (tick_acked_stays b.tick) (tick_acked_less b.tick)
+    | true ↦ λ b ws. put_conserves shape.tick rings (λ _. true) 1 (inject_next routing shape (ack_injects b.tick)) b (tick_acked b.tick) ws (elim b.tick.reinjects as (λ t. (if t then record b.tick { pending = b.tick.pending - 1; free = true } else b.tick).reinjects ≡ b.tick.reinjects) [ true ↦ refl | false ↦ refl ]) (tick_acked_stays b.tick) (tick_acked_less b.tick)
         (next_conserving (λ _. true) (ack_injects b.tick) refl)
     | false ↦ nothing_conserving shape.tick rings (λ _. true)
   ]

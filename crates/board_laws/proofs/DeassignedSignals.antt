@@ -262,11 +262,8 @@ leads_off trigger b (e ∷ es) c (next, step, leads) never off =
     (step_off trigger b e next step (never e (Contains-append_left (e ∷ []) es e (0, omega arith, refl))) off)
 
 ended_signals_no_more : (shape : Shape) (p : Point) → IsLegal shape p → EndedSignalsNoMore shape p
-ended_signals_no_more shape p legal trigger ended = signals_no_more trigger (board_at shape p) p.entry (board_left shape p) (step_at shape p legal) (off (split (opening shape) ended.early (ended.end_ ∷ ended.between) (board_at shape p) to_point))
+ended_signals_no_more shape p legal trigger ended = signals_no_more trigger (board_at shape p) p.entry (board_left shape p) (step_at shape p legal) (off (split (opening shape) ended.early (ended.end_ ∷ ended.between) (board_at shape p) (subst (λ (es : List Entry). Leads (opening shape) es (board_at shape p)) ended.before (before_point shape p legal))))
   where
-    to_point : Leads (opening shape) (ended.early ++ ended.end_ ∷ ended.between) (board_at shape p)
-    to_point = subst (λ (es : List Entry). Leads (opening shape) es (board_at shape p)) ended.before (before_point shape p legal)
-
     at_end : Board
     at_end = board_after (opening shape) ended.early
 

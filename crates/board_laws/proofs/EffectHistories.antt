@@ -27,16 +27,13 @@ opening_stands shape = record {
   numbers = (opening_fine shape.cpus).numbers;
 }
 
-has_processors : (b : Board) → LapicsStand b → HasProcessors b b.shape.cpus
-has_processors b stand = record { places = let many : length b.lapics ≡ b.shape.cpus = stand.places in omega (many, arith); numbers = λ n _. stand.numbers n }
-
 stands_on : (b : Board) (e : Entry) (c : Board) → Step b e c → LapicsStand b → LapicsStand c
 stands_on b e c step stand = lapics_stay_in_place b e c stand step
 
 said_at : (shape : Shape) (p : Point) → IsLegal shape p → EffectlessChangesNoRequest (board_at shape p) p.entry (board_left shape p)
 said_at shape p legal =
     let stand = holds_at shape p legal LapicsStand stands_on (opening_stands shape) in
-    coalesced_and_ignored_change_no_request (board_at shape p) p.entry (board_left shape p) (has_processors (board_at shape p) stand) (step_at shape p legal)
+    coalesced_and_ignored_change_no_request (board_at shape p) p.entry (board_left shape p) (record { places = let many : length (board_at shape p).lapics ≡ (board_at shape p).shape.cpus = stand.places in omega (many, arith); numbers = λ n _. stand.numbers n }) (step_at shape p legal)
 
 pub statuses_without_effect_change_no_request : OfLegalHistories StatusesWithoutEffectChangeNoRequest
 statuses_without_effect_change_no_request = at_points (λ shape p. EffectlessChangesNoRequest (board_at shape p) p.entry (board_left shape p)) said_at

@@ -31,8 +31,6 @@ shows ipi e = open_shows mute is_open ipi (λ other b ws fit. refl) (λ m g k h 
 shows (the_reply pic) e = absurd (true≢false e)
 
 module _ (routing : Routing) (shape : Shape) where
-  tells : Tells mute
-  tells = tells_by mute (λ counter b ws fit. refl) (λ counter b ws fit. refl) (λ registry gsi seen b fit. tt) (λ registry gsi seen b fit. tt)
 
   ends : Ends mute routing shape
   ends = record {
@@ -42,7 +40,7 @@ module _ (routing : Routing) (shape : Shape) where
   }
 
   accesses : Accesses mute routing shape
-  accesses = open_accesses mute is_open routing shape replies (acks_hold mute routing shape (λ pin b ws fit. refl) (open_signals mute is_open) tells ends) (λ pin. shows (resent pin) refl) (shows ipi refl)
+  accesses = open_accesses mute is_open routing shape replies (acks_hold mute routing shape (λ pin b ws fit. refl) (open_signals mute is_open) (tells_by mute (λ counter b ws fit. refl) (λ counter b ws fit. refl) (λ registry gsi seen b fit. tt) (λ registry gsi seen b fit. tt)) ends) (λ pin. shows (resent pin) refl) (shows ipi refl)
 
   rings : (counter : Option ℕ) → Holds mute (rung routing shape counter)
   rings = rung_holds mute routing shape (open_signals mute is_open) (open_rings mute is_open routing shape replies (λ counter b ws fit. refl) (λ gsi pic. shows (injected gsi pic) refl)) replies

@@ -202,8 +202,6 @@ module _ (b : Board) (stand : HasProcessors b b.shape.cpus) (targets : Targets) 
 
     -- a message that was sent
     module _ (p : Processor) (ps : List Processor) (taken : is_taken message.mode ≡ true) (named : named_on d b.shape.cpus message None ≡ p ∷ ps) (legal : is_illegal message ≡ false) where
-      is_sent : IsSent message (named_on d b.shape.cpus message None)
-      is_sent = let some : 0 < length (p ∷ ps) = grind arith in record { taken = taken; someone = subst (λ l. 0 < length l) (sym named) some; legal = legal }
 
       sending_says : {s : Numbers} (o : Outcome TargetAnswer) → MayReach message.mode (named_on d b.shape.cpus message None) s → IsSending message None about d s o → Says b targets o
       sending_says {s} o may is = record {
@@ -243,10 +241,7 @@ module _ (b : Board) (stand : HasProcessors b b.shape.cpus) (targets : Targets) 
           by_new false some quiet = absurd (true≢false (sym quiet ∙ (grind arith)))
 
       delivered_says : Says b targets (run (send b.shape.cpus message None about) d ws)
-      delivered_says = let only_so = (wishes_reach_exactly b.shape.cpus message None about d stand_still is_sent).only ws in sending_says (run (send b.shape.cpus message None about) d ws) only_so.1 only_so.2
-
-    to_named : is_taken message.mode ≡ true → (seen : List Processor) → named_by message None looked ≡ seen → run (send b.shape.cpus message None about) d ws ≡ run (send_to message None about looked seen) d ws
-    to_named taken seen is = grind (arith, after_seen, looked)
+      delivered_says = let only_so = (wishes_reach_exactly b.shape.cpus message None about d stand_still (let some : 0 < length (p ∷ ps) = grind arith in record { taken = taken; someone = subst (λ l. 0 < length l) (sym named) some; legal = legal })).only ws in sending_says (run (send b.shape.cpus message None about) d ws) only_so.1 only_so.2
 
     by_mode : is_taken message.mode ≡ true → message_answer_on b b.shape.cpus message ≡ message_answer_by message (named_on b b.shape.cpus message None)
     by_mode taken = ap (λ t. if not t then no_effect BadMode else message_answer_by message (named_on b b.shape.cpus message None)) taken
@@ -254,7 +249,7 @@ module _ (b : Board) (stand : HasProcessors b b.shape.cpus) (targets : Targets) 
     -- whatever processors are named
     named_says : is_taken message.mode ≡ true → (seen all : List Processor) → named_by message None looked ≡ seen → named_on d b.shape.cpus message None ≡ all → has_any seen ≡ has_any all → Says b targets (run (send b.shape.cpus message None about) d ws)
     named_says taken [] [] seen_is all_is alike =
-        subst (λ (o : Outcome TargetAnswer). Says b targets o) (sym (to_named taken [] seen_is))
+        subst (λ (o : Outcome TargetAnswer). Says b targets o) (sym (grind (arith, after_seen, looked, taken, seen_is)))
         (shown_says (no_effect NoProcessor) (Some (no_effect NoProcessor)) ws (cause_says NoProcessor (by_mode taken ∙ ap (message_answer_by message) (sym named_is ∙ all_is))))
     named_says taken [] (p ∷ ps) seen_is all_is alike = absurd (true≢false (sym alike))
     named_says taken (q ∷ qs) [] seen_is all_is alike = absurd (true≢false alike)
@@ -264,7 +259,7 @@ module _ (b : Board) (stand : HasProcessors b b.shape.cpus) (targets : Targets) 
         of_vector false legal = delivered_says p ps taken all_is legal
         of_vector true illegal =
             subst (λ (o : Outcome TargetAnswer). Says b targets o)
-            (sym (to_named taken (q ∷ qs) seen_is ∙ ap (λ t. run (if t then refuse_vector message about looked (q ∷ qs) else deliver message None about looked (q ∷ qs)) d ws) illegal))
+            (sym ((grind (arith, after_seen, looked, taken, seen_is)) ∙ ap (λ t. run (if t then refuse_vector message about looked (q ∷ qs) else deliver message None about looked (q ∷ qs)) d ws) illegal))
             (says_after b targets (λ _. ignore about BadVector) (accept_each message (numbers_of (q ∷ qs)) looked) d ws (refused_spares (numbers_of (q ∷ qs)) (reached_by message None b.shape.cpus) illegal) (λ n. refl)
             (λ _ c vs same. record {
               status = status_of (pic_answer_on b targets.pic) (Some (no_effect BadVector)) nobody;

@@ -124,9 +124,6 @@ module _ (asked : Cause → Bool) where
   one_answers pic other h1 = grind arith
 
   module _ (b : Board) (no_mode : asked Cause.Mode ≡ false) (no_vector : asked Cause.BadVector ≡ false) (nobody : asked Cause.NoProcessor ≡ false) where
-    -- a message answers the causes of messages alone
-    message_never : (message : Message) → answers_cause asked (Some (message_answer_on b b.shape.cpus message)) ≡ false
-    message_never message = grind arith
 
     -- an 8259A pin answers that it is masked alone
     pic_answers : (pin : Option ℕ) → answers_cause asked (pic_answer_on b pin) ≡ true → (n : ℕ) × (pin ≡ Some n) × (is_masked (pin_outcome (pair_of b.pic) n true) ≡ true) × (asked Masked ≡ true)
@@ -135,13 +132,13 @@ module _ (asked : Cause → Bool) where
     -- so does a pin of the I/O APIC, or as its message
     other_answers : (ioapic : Option ℕ) (msi : Option MsiWord) → answers_cause asked (other_answer_on b b.shape.cpus ioapic msi) ≡ true → (n : ℕ) × (ioapic ≡ Some n) × (raise_masked (raise_of (ioapic_of b.ioapic) n) ≡ true) × (asked Masked ≡ true)
     other_answers None None h = absurd (true≢false (sym h))
-    other_answers None (Some word) h = absurd (true≢false (sym h ∙ message_never (message_in word.address word.payload)))
+    other_answers None (Some word) h = absurd (true≢false (sym h ∙ (grind arith)))
     other_answers (Some pin) msi h = of_raise (raise_of (ioapic_of b.ioapic) pin) refl h
       where
         of_raise : (r : Raise) → raise_of (ioapic_of b.ioapic) pin ≡ r → answers_cause asked (Some (raise_answer_on b b.shape.cpus r)) ≡ true → (n : ℕ) × (Some pin ≡ Some n) × (raise_masked (raise_of (ioapic_of b.ioapic) n) ≡ true) × (asked Masked ≡ true)
         of_raise Raise.Masked is h = (pin, refl, ap raise_masked is, h)
         of_raise Raise.Stood is h = absurd (true≢false (sym h))
-        of_raise (Raise.Send message) is h = absurd (true≢false (sym h ∙ message_never message))
+        of_raise (Raise.Send message) is h = absurd (true≢false (sym h ∙ (grind arith)))
 
 -- the cause is Masked only where a pin of the targets is masked
 pub masked_only : (b : Board) (targets : Targets) → Masked ≡ cause_on b targets → PicMasked b targets ⊎ IoapicMasked b targets
@@ -160,12 +157,9 @@ module _ (b : Board) (targets : Targets) where
     pic = sym (ap lacks_effect is) ∙ no_pic;
     other = sym (ap lacks_effect says) ∙ no_other;
     first = λ i. first_cause (is i) (says i);
-    unrouted = (λ unrouted. none pic other is says no_pic no_other (ap is_unrouted unrouted), λ no_target. all_none no_target);
+    unrouted = (λ unrouted. none pic other is says no_pic no_other (ap is_unrouted unrouted), λ no_target. ((λ i. first_cause (is i) (says i)) ∙ (λ i. first_cause (pic_answer_on b (no_target.pic i)) (other_answer_on b b.shape.cpus (no_target.ioapic i) (no_target.msi i)))));
   }
     where
-      all_none : HasNoTarget targets → first_cause pic other ≡ Cause.Unrouted
-      all_none gone = (λ i. first_cause (is i) (says i)) ∙ (λ i. first_cause (pic_answer_on b (gone.pic i)) (other_answer_on b b.shape.cpus (gone.ioapic i) (gone.msi i)))
-
       no_pin : (pin : Option ℕ) → None ≡ pic_answer_on b pin → pin ≡ None
       no_pin pin h1 = grind arith
 

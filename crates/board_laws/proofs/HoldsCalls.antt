@@ -125,15 +125,12 @@ module _ (b : Board) (ws : Wishes) (s : Stands b) where
       during : Board
       during = record b { registry = t; counters = taken b.counters trigger }
 
-      free : is_trigger r trigger ≡ false
-      free = (no_reason (is_trigger r trigger) Busy ((is_signalled r trigger || resample_clashes r trigger resample, RoleClash) ∷ []) none).0
-
       now : HeldWith t during
       now = record { registry = refl; pic = λ pin on. more_resampler r row (Pin.Pic pin) (s.held.pic pin on); ioapic = λ pin on. more_resampler r row (Pin.Ioapic pin) (s.held.ioapic pin on) }
 
       apart : AllPairs (λ (a c : Irqfd). has_trigger a.trigger c ≡ false) t.irqfds
       apart = pairs_push (λ (a c : Irqfd). has_trigger a.trigger c ≡ false) r.irqfds row s.apart
-          (All-weaker (λ (i : Irqfd). has_trigger trigger i ≡ false) (λ (i : Irqfd). has_trigger i.trigger row ≡ false) (λ i off. (grind (arith, off))) r.irqfds (each_fails (has_trigger trigger) r.irqfds free))
+          (All-weaker (λ (i : Irqfd). has_trigger trigger i ≡ false) (λ (i : Irqfd). has_trigger i.trigger row ≡ false) (λ i off. (grind (arith, off))) r.irqfds (each_fails (has_trigger trigger) r.irqfds ((no_reason (is_trigger r trigger) Busy ((is_signalled r trigger || resample_clashes r trigger resample, RoleClash) ∷ []) none).0)))
 
       fires : MayRaise (held t s.made) (targets_of t.table gsi) (source_of (is_some resample))
       fires = may t s.made gsi (source_of (is_some resample)) (λ is. own_row r row (resamples_if (is_some resample) is))

@@ -12,12 +12,6 @@ service_irr a vector = grind arith
 service_nmi : (a : LocalApic) (vector : Option ℕ) → (without_service a vector).nmi ≡ a.nmi
 service_nmi a vector = grind arith
 
-store_irr : (a : LocalApic) (offset value : ℕ) → (store_to a offset value).irr ≡ a.irr
-store_irr a offset value = elim (register_at offset) as (λ o. (stored_at a o value).irr ≡ a.irr) [ None ↦ refl | Some register ↦ grind (arith, service_irr) ]
-
-store_nmi : (a : LocalApic) (offset value : ℕ) → (store_to a offset value).nmi ≡ a.nmi
-store_nmi a offset value = elim (register_at offset) as (λ o. (stored_at a o value).nmi ≡ a.nmi) [ None ↦ refl | Some register ↦ grind (arith, service_nmi) ]
-
 module _ (routing : Routing) (shape : Shape) where
   abbrev w : Walk
   w = safe shape.cpus
@@ -49,7 +43,7 @@ module _ (routing : Routing) (shape : Shape) where
     ipis = (shows shape.cpus ipi).sends;
     pairs = λ pair b fine. tt;
     stores = λ offset value b fine. tt;
-    registers = λ n offset value b fine. let a = part_of b (Lapic n) in (store_number a offset value ∙ fine.numbers n, same_requests a (store_to a offset value) (store_irr a offset value) (store_nmi a offset value));
+    registers = λ n offset value b fine. let a = part_of b (Lapic n) in (store_number a offset value ∙ fine.numbers n, same_requests a (store_to a offset value) (elim (register_at offset) as (λ o. (stored_at a o value).irr ≡ a.irr) [ None ↦ refl | Some register ↦ grind (arith, service_irr) ]) (elim (register_at offset) as (λ o. (stored_at a o value).nmi ≡ a.nmi) [ None ↦ refl | Some register ↦ grind (arith, service_nmi) ]));
     services = λ n b fine. let a = part_of b (Lapic n) in let v = greatest_vector a.isr in (service_number a v ∙ fine.numbers n, same_requests a (without_service a v) (service_irr a v) (service_nmi a v));
   }
 

@@ -18,9 +18,6 @@ module _ (r : RegistryPart) (shape : Shape) where
   replied : Replied quiet routing shape
   replied = open_replied quiet quiet_open routing shape replies (λ gsi b ws fit. tt) (λ pic. quiet_shows (the_reply pic))
 
-  count_quiet : (gsi : ℕ) (resample : Option ℕ) (injects : Bool) → Holds quiet (inject_count routing shape gsi resample injects)
-  count_quiet gsi resample = inject_count_holds quiet routing shape signals gsi resample (open_raise quiet quiet_open _ _) (λ pic. quiet_shows (injected gsi pic))
-
   fall_quiet : Holds quiet (inject_tick routing shape (λ pic. the_reply pic))
   fall_quiet = inject_tick_holds quiet routing shape signals (open_raise quiet quiet_open _ _) (λ status b fit. tt) (λ pic. the_reply pic) (λ pic. quiet_shows (the_reply pic))
 
@@ -63,7 +60,7 @@ module _ (r : RegistryPart) (shape : Shape) where
   in_range n (Call.Msi address payload) = quietly (message_sent shape address payload) (message_holds quiet routing shape replied address payload)
   in_range n (Call.Write counter count) = quietly (write routing shape (routing.trigger counter) counter count) (write_holds quiet routing shape replied counter count (routing.trigger counter) refl)
   in_range n (Call.Take counter) = quietly (take counter) (take_holds quiet routing shape replies counter (λ b fit. tt))
-  in_range n (Call.Assign trigger gsi resample) = quietly (assign routing shape trigger gsi resample) (assign_holds quiet routing shape replies (λ v b fit. tt) trigger gsi resample (λ counts b fit. tt) (count_quiet gsi resample))
+  in_range n (Call.Assign trigger gsi resample) = quietly (assign routing shape trigger gsi resample) (assign_holds quiet routing shape replies (λ v b fit. tt) trigger gsi resample (λ counts b fit. tt) (inject_count_holds quiet routing shape signals gsi resample (open_raise quiet quiet_open _ _) (λ pic. quiet_shows (injected gsi pic))))
   in_range n (Call.Deassign trigger gsi) = quietly (deassign routing trigger gsi) (deassign_holds quiet routing shape replies (λ v b fit. tt) signals trigger gsi)
   in_range n (Call.Reroute rows) = quietly (reroute rows) (reroute_holds quiet routing shape replies (λ v b fit. tt) (λ holds b fit. tt) (λ holds b fit. tt) rows)
   in_range n (Call.Attach space address len counter want) = quietly (attach (io_row space address len counter want)) (attach_holds quiet routing shape replies (λ v b fit. tt) (io_row space address len counter want))

@@ -56,12 +56,9 @@ module _ (b : Board) (n : ℕ) (ws : Wishes) where
 
 -- ---- what is in hand of a board
 
-chip_whole : (c : pic.PicPart) → PairFits c.pair c.levels → c.pair ≡ pair_of (pic_of c)
-chip_whole c fits = λ i. record { master = record c.pair.master { high = fits.master i }; slave = record c.pair.slave { high = fits.slave i } }
-
 pair_whole : (part : Option pic.PicPart) → is_some (option_map pic_of part) ≡ true → IfSome {T = Pair × Holds} (option_map (λ (c : pic.PicPart). (c.pair, c.levels)) part) (λ p. PairFits p.0 p.1) → option_map (λ (c : pic.PicPart). c.pair) part ≡ Some (pair_of (unwrap_or (option_map pic_of part) opening_pic))
 pair_whole None there fits = absurd (true≢false (sym there))
-pair_whole (Some c) there fits = ap Some (chip_whole c fits)
+pair_whole (Some c) there fits = ap Some (λ i. record { master = record c.pair.master { high = fits.master i }; slave = record c.pair.slave { high = fits.slave i } })
 
 apic_whole : (row : List (Option LocalApic)) (n m : ℕ) → is_some (flat (slice_get row n)) ≡ true → flat (slice_get row n) ≡ Some (unwrap_or (slice_get (map (λ place. unwrap_or place (power_on 0)) row) n) (power_on m))
 apic_whole [] n m there = absurd (true≢false (sym there))

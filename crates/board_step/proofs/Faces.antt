@@ -90,7 +90,7 @@ module _ (b : Board) (caller : Caller) (call : Call) (done : Done) (before now :
       barred_then : (nat_eq at b.shape.calls ≡ true) × (nat_eq b.length at ≡ true) → ⊥
       barred_then h = (let p = h.0 in let q = h.1 in let long : nat_eq b.length b.shape.calls ≡ true = grind (p, q, arith, nat_tests) in
           some_none (Calls b.shape.calls) (sym (ap (λ t. if t then Some (Calls b.shape.calls) else if would_publish b call && nat_eq b.publications b.shape.publications then Some (Publications b.shape.publications) else None) long) ∙ applied.step.in_limits))
-  still_reached (Some (Publications at)) is = (λ i. nat_eq at (frame.shape i).publications && nat_eq ((frame.publications ∙ ap (λ t. if t then b.publications + 1 else b.publications) never) i) at) ∙ is
+  still_reached (Some (Publications at)) is = (λ i. nat_eq at (frame.shape i).publications && nat_eq ((frame.publications ∙ ap (λ t. if t then b.publications + 1 else b.publications) (sym (steps_show_publications b e c applied.step) ∙ by (nat_eq b.length b.shape.calls) (would_publish b call) refl refl)) i) at) ∙ is
     where
       e : Entry
       e = entry_of caller call done.reply applied.told
@@ -106,6 +106,3 @@ module _ (b : Board) (caller : Caller) (call : Call) (done : Done) (before now :
       by s false long w = refl
       by true true long w = absurd (some_none (Calls b.shape.calls) (sym (ap (λ t. if t then Some (Calls b.shape.calls) else if would_publish b call && nat_eq b.publications b.shape.publications then Some (Publications b.shape.publications) else None) long) ∙ applied.step.in_limits))
       by false true long w = absurd (some_none (Publications b.shape.publications) (sym (λ i. if long i then Some (Calls b.shape.calls) else if w i && full i then Some (Publications b.shape.publications) else None) ∙ applied.step.in_limits))
-
-      never : is_publication e ≡ false
-      never = sym (steps_show_publications b e c applied.step) ∙ by (nat_eq b.length b.shape.calls) (would_publish b call) refl refl

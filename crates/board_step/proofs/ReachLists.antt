@@ -9,9 +9,6 @@ use Rattle.board_step.proofs.ReachApart.{SamePin, same_level, IsOther, IsOtherOf
 abbrev resend_by : Bool → Entry → Option Message
 resend_by high e = if high && (not e.masked && (e.level && not e.remote_irr)) then Some (message_of e) else None
 
-same_acked : (io other : IoapicChip) (pin : ℕ) → entry_at other pin ≡ entry_at io pin → entry_at (pin_acked other pin) pin ≡ entry_at (pin_acked io pin) pin
-same_acked io other pin same = acked_entry other pin pin ∙ ap (λ e. if nat_eq pin pin then irr_cleared e else e) same ∙ sym (acked_entry io pin pin)
-
 freed_same : (pin : ℕ) (part other : IoapicPart) (ioapic : Option ℕ) → SamePin pin part other → SamePin pin (pin_freed part ioapic) (pin_freed other ioapic)
 freed_same pin part other None h = h
 freed_same pin part other (Some at) h = record {
@@ -54,7 +51,7 @@ module _ (routing : Routing) (shape : Shape) where
   level_same : (b c : Board) (acked : Pin) (q : Part) → SameAcked acked b.ioapic c.ioapic → of_level routing shape c acked q ≡ of_level routing shape b acked q
   level_same b c (Pin.Pic p) q h = refl
   level_same b c (Pin.Ioapic at) q h = λ i.
-      is_same Ioapic q || ((h.entry i).level && of_resend routing shape (resend_by (same_level h i) (same_acked (ioapic_of b.ioapic) (ioapic_of c.ioapic) at h.entry i)) q)
+      is_same Ioapic q || ((h.entry i).level && of_resend routing shape (resend_by (same_level h i) ((acked_entry (ioapic_of c.ioapic) at at ∙ ap (λ e. if nat_eq at at then irr_cleared e else e) h.entry ∙ sym (acked_entry (ioapic_of b.ioapic) at at)) i)) q)
 
   tick_same : (b c : Board) (gsi : Option ℕ) (q : Part) → (gsi ≡ Some shape.tick → c.tick ≡ b.tick)
       → ((t : ℕ) → gsi ≡ Some shape.tick → (routing.targets shape.tick).ioapic ≡ Some t → SamePin t b.ioapic c.ioapic) → of_tick routing shape c gsi q ≡ of_tick routing shape b gsi q

@@ -12,17 +12,12 @@ made_only t sound pin gsi =
     let (rows, kept, is) = sound.made in
     subst (λ (u : Table). has_pin pin (targets_of u gsi) ≡ true → gsi_of u pin ≡ Some gsi) (sym is) (gsi_of_pin rows (sound_of rows kept) pin gsi)
 
-tells_pins : (r : RegistryPart) (tick : ℕ) (shape : Shape) → IsSoundRegistry r tick → TellsPins (routing_of_registry r tick) shape
-tells_pins r tick shape sound = record { own = λ pin gsi. gsi_has_pin r.table pin gsi; only = λ pin gsi. made_only r.table sound.table pin gsi }
-
 marks_resamplers : (b : Board) → MarksResamplers (routing_of_registry b.registry b.shape.tick) b.shape b
 marks_resamplers b gsi has = ap (λ t. t || (has_watch b.registry.watches gsi || nat_eq gsi b.shape.tick)) has
 
 -- ---- the pins of one call
 
 module _ (routing : Routing) (shape : Shape) (tells : TellsPins routing shape) where
-  one_number : (o : Option ℕ) (a c : ℕ) → is_same_pin o (Some a) ≡ true → is_same_pin o (Some c) ≡ true → nat_eq a c ≡ true
-  one_number o a c h1 h2 = grind arith
 
   both_ways : {P : Type 0} (a c : ℕ) → nat_eq a c ≡ false → nat_eq a c ≡ true → P
   both_ways a c other same = absurd (true≢false (sym same ∙ other))
@@ -30,7 +25,7 @@ module _ (routing : Routing) (shape : Shape) (tells : TellsPins routing shape) w
   ioapic_apart : (a c : ℕ) → nat_eq a c ≡ false → Apart routing shape (Pin.Ioapic a) (Pin.Ioapic c)
   ioapic_apart a c other = record {
     differ = λ same. both_ways a c other ((unsigned_Decides a c).1 (number a c same));
-    gsis = λ gsi h k. both_ways a c other (one_number (routing.targets gsi).ioapic a c (tells.own (Pin.Ioapic a) gsi h) (tells.own (Pin.Ioapic c) gsi k));
+    gsis = λ gsi h k. both_ways a c other (grind (arith, (tells.own (Pin.Ioapic a) gsi h), (tells.own (Pin.Ioapic c) gsi k)));
   }
     where
       number : (a c : ℕ) → Pin.Ioapic a ≡ Pin.Ioapic c → a ≡ c
@@ -39,7 +34,7 @@ module _ (routing : Routing) (shape : Shape) (tells : TellsPins routing shape) w
   pic_apart : (a c : ℕ) → nat_eq a c ≡ false → Apart routing shape (Pin.Pic a) (Pin.Pic c)
   pic_apart a c other = record {
     differ = λ same. both_ways a c other ((unsigned_Decides a c).1 (number a c same));
-    gsis = λ gsi h k. both_ways a c other (one_number (routing.targets gsi).pic a c (tells.own (Pin.Pic a) gsi h) (tells.own (Pin.Pic c) gsi k));
+    gsis = λ gsi h k. both_ways a c other (grind (arith, (tells.own (Pin.Pic a) gsi h), (tells.own (Pin.Pic c) gsi k)));
   }
     where
       number : (a c : ℕ) → Pin.Pic a ≡ Pin.Pic c → a ≡ c
@@ -154,9 +149,6 @@ module _ (routing : Routing) (shape : Shape) (tells : TellsPins routing shape) (
       else if is_lapic_address address then is_same (Lapic n) q || (nat_eq len 4 && effect_now n (store_effect (part_of b (Lapic n)) (address - 0xfee00000) value) i)
       else ring_now Space.Memory address len value i
 
-  ack_now : (n : ℕ) (apic : LocalApic) → table.of_ack of_acknowledge_each routing shape b n apic q ≡ table.of_ack of_acknowledges_now routing shape b n apic q
-  ack_now n apic = ap (λ t. is_same (Lapic n) q || ((not apic.nmi && hears_pair n apic) && (is_same Pic q || (has_output (pair_of b.pic) && t)))) cycle_now
-
   call_now : (n : ℕ) (call : Call) → table.of_call of_acknowledge_each routing shape b n call q ≡ table.of_call of_acknowledges_now routing shape b n call q
   call_now n (Call.Write counter count) = grind arith
   call_now n (Call.Deassign trigger gsi) = ap (λ t. is_same Registry q || (t && of_fall (routing.targets gsi) q)) (grind arith)
@@ -164,7 +156,7 @@ module _ (routing : Routing) (shape : Shape) (tells : TellsPins routing shape) (
       λ i. if is_port port then pair_now len (pair_write_to (pair_of b.pic) port value).pin i else ring_now Space.Port port len value i
   call_now n (Call.PortIn port len) = λ i. if is_port port then pair_now len (pair_read_from (pair_of b.pic) port).pin i else false
   call_now n (Call.Store address len value) = store_now n address len value
-  call_now n Call.Ack = ack_now n (part_of b (Lapic n))
+  call_now n Call.Ack = ap (λ t. is_same (Lapic n) q || ((not (part_of b (Lapic n)).nmi && hears_pair n (part_of b (Lapic n))) && (is_same Pic q || (has_output (pair_of b.pic) && t)))) cycle_now
   call_now n Call.Inta = ap (λ t. is_same Pic q || t) cycle_now
   call_now n Call.Eoi = ap (λ t. is_same (Lapic n) q || t) (end_now (greatest_vector (part_of b (Lapic n)).isr))
   call_now n _ = refl
@@ -173,7 +165,7 @@ module _ (routing : Routing) (shape : Shape) (tells : TellsPins routing shape) (
 pub reach_by_registry : (b : Board) (caller : Caller) (call : Call) (q : Part) → IsSoundRegistry b.registry b.shape.tick → reach b caller call q ≡ reach_now b caller call q
 reach_by_registry b caller call q sound =
     ap (λ t. not (is_some (first_of (range_reasons b.shape call))) && t)
-    (call_now (routing_of_registry b.registry b.shape.tick) b.shape (tells_pins b.registry b.shape.tick b.shape sound) b (marks_resamplers b) q (number_of caller) call)
+    (call_now (routing_of_registry b.registry b.shape.tick) b.shape (record { own = λ pin gsi. gsi_has_pin b.registry.table pin gsi; only = λ pin gsi. made_only b.registry.table sound.table pin gsi }) b (marks_resamplers b) q (number_of caller) call)
 
 pub reach_is_now : ReachIsNow
 reach_is_now b caller call q sound = reach_by_registry b caller call q sound.registry

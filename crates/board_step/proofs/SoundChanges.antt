@@ -38,9 +38,6 @@ unless_whole shape bound b ws (Some refusal) plan w h = w
 pub less_of : (a b : ℕ) → nat_le a b ≡ false → b < a
 less_of a b e = grind arith
 
-turned_one : (a b : ℕ) → nat_eq a b ≡ false → nat_eq b a ≡ false
-turned_one a b e = grind arith
-
 -- a test of an element more, which it fails
 none_more : {X : Type 0} (p : X → Bool) (xs : List X) (x : X) → list_any p xs ≡ false → p x ≡ false → list_any p (xs ++ x ∷ []) ≡ false
 none_more p xs x none off = list_any-append p xs (x ∷ []) ∙ or_both (list_any p xs) (p x || false) none (or_both (p x) false off refl)
@@ -50,7 +47,7 @@ roles_more : (f : ℕ → Bool) (rows : List Watch) (row : Watch) (all : List Ir
 roles_more f rows row all old other k d below =
     let t = (get_or all k d).trigger in
     let each = or_neither (f t) (has_counter rows t) (old k d below) in
-    or_both (f t) (has_counter (rows ++ row ∷ []) t) each.0 (none_more (λ (x : Watch). nat_eq x.counter t) rows row each.1 (turned_one t row.counter (other k d below)))
+    or_both (f t) (has_counter (rows ++ row ∷ []) t) each.0 (none_more (λ (x : Watch). nat_eq x.counter t) rows row each.1 (grind (arith, (other k d below))))
 
 -- and with an irqfd more of another resample counter
 role_more : (rows : List Irqfd) (row : Irqfd) (g : Bool) (t : ℕ) → (list_any (has_resample t) rows || g) ≡ false → has_resample t row ≡ false → (list_any (has_resample t) (rows ++ row ∷ []) || g) ≡ false
@@ -61,7 +58,7 @@ clash_free : (r : RegistryPart) (trigger : ℕ) (resample : Option ℕ) → resa
 clash_free r trigger None e = (refl, λ k d below. refl)
 clash_free r trigger (Some c) e =
     let each = or_neither (nat_eq c trigger) (is_trigger r c) e in
-    (each.0, All-weaker (λ (i : Irqfd). has_trigger c i ≡ false) (λ (i : Irqfd). is_counter i.trigger (Some c) ≡ false) (λ i off. turned_one i.trigger c off) r.irqfds (each_fails (has_trigger c) r.irqfds each.1))
+    (each.0, All-weaker (λ (i : Irqfd). has_trigger c i ≡ false) (λ (i : Irqfd). is_counter i.trigger (Some c) ≡ false) (λ i off. (grind (arith, off))) r.irqfds (each_fails (has_trigger c) r.irqfds each.1))
 
 -- ---- ioeventfds
 
@@ -185,7 +182,7 @@ module _ (shape : Shape) (bound : ℕ) (b : Board) (ws : Wishes) (w : Whole shap
         named = record { irqfds = All-push (IrqfdFits shape.counters) r.irqfds row w.fine.named.irqfds fits; watches = w.fine.named.watches; ioevents = w.fine.named.ioevents };
         distinct = record {
           triggers = pairs_push (λ (a c : Irqfd). has_trigger a.trigger c ≡ false) r.irqfds row w.fine.distinct.triggers
-              (All-weaker (λ (i : Irqfd). has_trigger row.trigger i ≡ false) (λ (i : Irqfd). has_trigger i.trigger row ≡ false) (λ i off. turned_one i.trigger row.trigger off) r.irqfds (each_fails (has_trigger row.trigger) r.irqfds busy.0));
+              (All-weaker (λ (i : Irqfd). has_trigger row.trigger i ≡ false) (λ (i : Irqfd). has_trigger i.trigger row ≡ false) (λ i off. (grind (arith, off))) r.irqfds (each_fails (has_trigger row.trigger) r.irqfds busy.0));
           roles = All-push (λ (i : Irqfd). is_signalled (record r { irqfds = r.irqfds ++ row ∷ [] }) i.trigger ≡ false) r.irqfds row
               (λ k d below. role_more r.irqfds row (has_counter r.watches (get_or r.irqfds k d).trigger) (get_or r.irqfds k d).trigger (w.fine.distinct.roles k d below) (free.1 k d below))
               (role_more r.irqfds row (has_counter r.watches row.trigger) row.trigger roles.0 free.0);

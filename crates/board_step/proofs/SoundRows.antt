@@ -66,7 +66,7 @@ pub resampler_stays : (trigger gsi other : ℕ) (rows : List Irqfd) → other �
 resampler_stays trigger gsi other [] ne e = e
 resampler_stays trigger gsi other (x ∷ xs) ne e =
     elim (is_named trigger gsi x) as (λ t. is_named trigger gsi x ≡ t → list_any (resamples other) (cond (not t) (x ∷ without_row xs trigger gsi) (without_row xs trigger gsi)) ≡ true) [
-      | true ↦ λ named. resampler_stays trigger gsi other xs ne (rest (nat_eq x.gsi other) (is_some x.resample) _ (off named) e)
+      | true ↦ λ named. resampler_stays trigger gsi other xs ne (rest (nat_eq x.gsi other) (is_some x.resample) _ (let at : x.gsi ≡ gsi = (unsigned_Decides x.gsi gsi).0 (second_so (nat_eq x.trigger trigger) _ named) in apart x.gsi (λ e. ne (sym e ∙ at))) e)
       | false ↦ λ _. elim (resamples other x) as (λ t. (t || list_any (resamples other) xs) ≡ true → (t || list_any (resamples other) (without_row xs trigger gsi)) ≡ true) [
         | true ↦ λ _. refl
         | false ↦ λ later. resampler_stays trigger gsi other xs ne later
@@ -78,9 +78,6 @@ resampler_stays trigger gsi other (x ∷ xs) ne e =
 
     apart : (n : ℕ) → n ≢ other → nat_eq n other ≡ false
     apart n h = grind arith
-
-    off : is_named trigger gsi x ≡ true → nat_eq x.gsi other ≡ false
-    off named = let at : x.gsi ≡ gsi = (unsigned_Decides x.gsi gsi).0 (second_so (nat_eq x.trigger trigger) _ named) in apart x.gsi (λ e. ne (sym e ∙ at))
 
 -- where no row has the trigger, all rows stay
 all_stay : (trigger gsi : ℕ) (rows : List Irqfd) → AllByRecursion (λ (row : Irqfd). has_trigger trigger row ≡ false) rows → without_row rows trigger gsi ≡ rows

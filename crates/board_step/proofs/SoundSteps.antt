@@ -30,9 +30,6 @@ module _ (b : Board) (ws : Wishes) (fine : RegistryFine b.shape b.registry) (eac
   whole : Whole b.shape bound b
   whole = record { fine = fine; each = more }
 
-  plain : (n : ℕ) (call : Call) → is_plain call ≡ true → Whole b.shape bound (run (plan_in_range routing b.shape n call) b ws).board
-  plain n call is = kept_whole b.shape bound b.registry (plan_in_range routing b.shape n call) b ws fine (sound_plain b.registry b.shape bound fine n call is) more
-
   tick_or_hold_keeps : (after : TickState) (t : Bool) → Holds (sound b.registry b.shape bound) (tick_or_hold routing b.shape after t)
   tick_or_hold_keeps after true = sound_tick b.registry b.shape bound fine (λ pic. the_reply pic)
   tick_or_hold_keeps after false = λ b ws each. each
@@ -56,7 +53,7 @@ module _ (b : Board) (ws : Wishes) (fine : RegistryFine b.shape b.registry) (eac
   in_range n Tick typed none =
       kept_whole b.shape bound b.registry (tick_or_hold routing b.shape (ticked b.tick) (tick_injects b.tick)) (record b { tick = ticked b.tick }) ws fine
       (tick_or_hold_keeps (ticked b.tick) (tick_injects b.tick)) (each_with b.registry b.shape bound b Part.Tick (ticked b.tick) more (grind (arith, (each Part.Tick))))
-  in_range n call typed none = plain n call refl
+  in_range n call typed none = kept_whole b.shape bound b.registry (plan_in_range routing b.shape n call) b ws fine (sound_plain b.registry b.shape bound fine n call refl) more
 
   call_whole : (caller : Caller) (call : Call) → IsTyped call → Whole b.shape bound (run (plan_on b caller call) b ws).board
   call_whole caller call typed = unless_whole b.shape bound b ws (first_of (range_reasons b.shape call)) (plan_in_range routing b.shape (number_of caller) call) whole (in_range (number_of caller) call typed)

@@ -54,9 +54,6 @@ module _ (n cpus : ℕ) (far : cpus ≤ n) where
 
   -- ---- signals
 
-  far_pic : (pin : Option ℕ) → of_pin pin Pic (Lapic n) ≡ false
-  far_pic pin = grind arith
-
   far_answer : (answer : Raise) → of_answer answer cpus (Lapic n) ≡ false
   far_answer (Raise.Send message) = far_message message None
   far_answer _ = refl
@@ -67,10 +64,10 @@ module _ (n cpus : ℕ) (far : cpus ≤ n) where
   far_other b None None = refl
 
   far_raise : (b : Board) (targets : Targets) → of_raise b targets cpus (Lapic n) ≡ false
-  far_raise b targets = or_false (of_pin targets.pic Pic (Lapic n)) _ (far_pic targets.pic) (far_other b targets.ioapic targets.msi)
+  far_raise b targets = or_false (of_pin targets.pic Pic (Lapic n)) _ (grind arith) (far_other b targets.ioapic targets.msi)
 
   far_fall : (targets : Targets) → of_fall targets (Lapic n) ≡ false
-  far_fall targets = or_false (of_pin targets.pic Pic (Lapic n)) _ (far_pic targets.pic) (grind arith)
+  far_fall targets = or_false (of_pin targets.pic Pic (Lapic n)) _ (grind arith) (grind arith)
 
 module _ (routing : Routing) (shape : Shape) (n : ℕ) (far : shape.cpus ≤ n) where
   far_gsi : (b : Board) (gsi : ℕ) → of_gsi routing shape b gsi (Lapic n) ≡ false
