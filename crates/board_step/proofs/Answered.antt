@@ -39,8 +39,7 @@ module _ (words : List ℕ) (shape : Shape) (caller : Caller) (call : Call) wher
 -- ---- parts that fit
 
 wider : (o : Option TickState) → IfSome o (λ tick. tick.pending ≤ 2 ^ 40) → IfSome o (λ tick. tick.pending ≤ 2 ^ 40 + 1)
-wider None h = h
-wider (Some tick) h = omega (arith, h)
+wider o h1 = grind arith
 
 pub fits_but : (shape : Shape) (p : code.Parts) → FitsShape shape p → FitsButTick shape p
 fits_but shape p fits = record {
@@ -67,9 +66,7 @@ pub publishes_where : (b : Board) (call : Call) → would_publish b call ≡ (no
 publishes_where b call = ap (λ r. publishes_unless r b call) (first_of_both (range_reasons b.shape call) (later_reasons b call)) ∙ by (first_of (range_reasons b.shape call)) (first_of (later_reasons b call))
   where
     by : (r s : Option Refusal) → publishes_unless (option_or r s) b call ≡ (not (is_some r) && (not (is_some s) && does_publish b call))
-    by None None = refl
-    by None (Some s) = refl
-    by (Some r) s = refl
+    by r s = grind arith
 
 -- some row is so exactly where the first such is found
 pub named_found : (rows : List Irqfd) (trigger gsi : ℕ) → is_some (named_row rows trigger gsi) ≡ list_any (is_named trigger gsi) rows

@@ -11,8 +11,7 @@ one_reply (r ∷ s ∷ rs) one = absurd (omega (arith, one))
 
 -- to count a call changes no part
 counted_all : (t : Bool) (b : Board) → all_parts (with_counts t b) ≡ all_parts b
-counted_all true b = refl
-counted_all false b = refl
+counted_all t b = grind arith
 
 -- the plan by the words is that of the board
 same_plan : (words : List _) (q : Parts) (shape : Shape) (caller : Caller) (call : Call) (b : Board) → IsOf shape words q b → plan_by words shape caller call ≡ plan_on b caller call

@@ -11,8 +11,7 @@ pub record Lets (w : Manner) (call : Call) : Type 0 where
 
 -- a manner that may do all it can lets every call do so
 pub or_true : (t : Bool) → (t || true) ≡ true
-or_true true = refl
-or_true false = refl
+or_true t = grind arith
 
 module _ (w : Manner) where
   -- an answer at the end

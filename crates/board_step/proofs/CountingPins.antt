@@ -61,8 +61,7 @@ pin_once None n = none (numbers_below n)
 pin_once (Some k) n = at_most_one (nat_lt k n) (once_below k n)
   where
     at_most_one : (t : Bool) → total (λ m. if nat_eq k m then 1 else 0) (numbers_below n) ≡ (if t then 1 else 0) → total (λ m. if nat_eq k m then 1 else 0) (numbers_below n) ≤ 1
-    at_most_one true h = omega (arith, h)
-    at_most_one false h = omega (arith, h)
+    at_most_one t h1 = grind arith
 
 -- no two pins of the I/O APIC have one GSI
 pub ioapic_apart : (table : Table) (n : ℕ) → AreApart (λ pin. gsi_of table pin) (map Ioapic (numbers_below n))

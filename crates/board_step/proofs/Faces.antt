@@ -20,18 +20,7 @@ same_nat n = grind (arith, nat_tests)
 
 -- a limit that bars a call is reached
 pub spent_reached : (b : Board) (call : Call) (spent : Spent) → spent_of b call ≡ Some spent → is_reached b (Some spent) ≡ true
-spent_reached b call spent is = by (nat_eq b.length b.shape.calls) (would_publish b call && nat_eq b.publications b.shape.publications) refl refl
-  where
-    by : (t u : Bool) → nat_eq b.length b.shape.calls ≡ t → (would_publish b call && nat_eq b.publications b.shape.publications) ≡ u → is_reached b (Some spent) ≡ true
-    by true u long full = subst (λ s. is_reached b (Some s) ≡ true) (same_some (Calls b.shape.calls) spent (sym (ap (λ t. if t then Some (Calls b.shape.calls) else if would_publish b call && nat_eq b.publications b.shape.publications then Some (Publications b.shape.publications) else None) long) ∙ is))
-        (ap (λ t. t && nat_eq b.length b.shape.calls) (same_nat b.shape.calls) ∙ long)
-    by false true long full = subst (λ s. is_reached b (Some s) ≡ true) (same_some (Publications b.shape.publications) spent (sym ((λ i. if long i then Some (Calls b.shape.calls) else if full i then Some (Publications b.shape.publications) else None)) ∙ is))
-        (ap (λ t. t && nat_eq b.publications b.shape.publications) (same_nat b.shape.publications) ∙ and_second (would_publish b call) (nat_eq b.publications b.shape.publications) full)
-      where
-        and_second : (s t : Bool) → (s && t) ≡ true → t ≡ true
-        and_second true t e = e
-        and_second false t e = absurd (true≢false (sym e))
-    by false false long full = absurd (some_none spent (sym is ∙ (λ i. if long i then Some (Calls b.shape.calls) else if full i then Some (Publications b.shape.publications) else None)))
+spent_reached b call spent h1 = grind arith
 
 -- where calls are left, and the call can be no publication, no limit bars it
 pub never_barred : (b : Board) (call : Call) (spent : Spent) → spent_of b call ≡ Some spent → 0 < b.shape.calls - b.length → may_publish call ≡ false → ⊥
@@ -41,13 +30,7 @@ never_barred b call spent is left quiet = some_none spent (sym is ∙ (λ i. if 
     short = grind (left, arith, nat_tests)
 
     unless : (r : Option Refusal) (call : Call) → may_publish call ≡ false → publishes_unless r b call ≡ false
-    unless (Some refusal) call quiet = refl
-    unless None (Call.Reroute rows) quiet = absurd (true≢false quiet)
-    unless None (Call.Assign trigger gsi resample) quiet = absurd (true≢false quiet)
-    unless None (Call.Deassign trigger gsi) quiet = absurd (true≢false quiet)
-    unless None (Call.Watch counter gsi) quiet = absurd (true≢false quiet)
-    unless None (Call.Unwatch counter gsi) quiet = absurd (true≢false quiet)
-    unless None _ quiet = refl
+    unless r call h1 = grind arith
 
 -- ---- after an answer
 
@@ -66,11 +49,7 @@ module _ (b : Board) (caller : Caller) (call : Call) (done : Done) (before now :
 
   -- the length was below the limit
   pub below_limit : b.length ≤ b.shape.calls → b.length < b.shape.calls
-  below_limit most = by (nat_eq b.length b.shape.calls) refl
-    where
-      by : (t : Bool) → nat_eq b.length b.shape.calls ≡ t → b.length < b.shape.calls
-      by true long = absurd (some_none (Calls b.shape.calls) (sym (ap (λ t. if t then Some (Calls b.shape.calls) else if would_publish b call && nat_eq b.publications b.shape.publications then Some (Publications b.shape.publications) else None) long) ∙ applied.step.in_limits))
-      by false short = grind (short, most, arith, nat_tests)
+  below_limit h1 = grind arith
 
   pub answered_left : b.length ≤ b.shape.calls → c.shape.calls - c.length + 1 ≡ b.shape.calls - b.length
   answered_left most = (λ i. (frame.shape i).calls - frame.length i + 1) ∙ (let low = below_limit most in omega (arith, low))
@@ -84,8 +63,7 @@ module _ (b : Board) (caller : Caller) (call : Call) (done : Done) (before now :
   still_reached (Some (Calls at)) is = absurd (barred_then (and_both (nat_eq at b.shape.calls) (nat_eq b.length at) is))
     where
       and_both : (s t : Bool) → (s && t) ≡ true → (s ≡ true) × (t ≡ true)
-      and_both true t e = (refl, e)
-      and_both false t e = absurd (true≢false (sym e))
+      and_both s t h1 = grind arith
 
       barred_then : (nat_eq at b.shape.calls ≡ true) × (nat_eq b.length at ≡ true) → ⊥
       barred_then h = (let p = h.0 in let q = h.1 in let long : nat_eq b.length b.shape.calls ≡ true = grind (p, q, arith, nat_tests) in
@@ -96,13 +74,10 @@ module _ (b : Board) (caller : Caller) (call : Call) (done : Done) (before now :
       e = entry_of caller call done.reply applied.told
 
       and_both : (s t : Bool) → (s && t) ≡ true → (s ≡ true) × (t ≡ true)
-      and_both true t e = (refl, e)
-      and_both false t e = absurd (true≢false (sym e))
+      and_both s t h1 = grind arith
 
       full : nat_eq b.publications b.shape.publications ≡ true
       full = (let h = and_both (nat_eq at b.shape.publications) (nat_eq b.publications at) is in let p = h.0 in let q = h.1 in grind (p, q, arith, nat_tests))
 
       by : (s t : Bool) → nat_eq b.length b.shape.calls ≡ s → would_publish b call ≡ t → t ≡ false
-      by s false long w = refl
-      by true true long w = absurd (some_none (Calls b.shape.calls) (sym (ap (λ t. if t then Some (Calls b.shape.calls) else if would_publish b call && nat_eq b.publications b.shape.publications then Some (Publications b.shape.publications) else None) long) ∙ applied.step.in_limits))
-      by false true long w = absurd (some_none (Publications b.shape.publications) (sym (λ i. if long i then Some (Calls b.shape.calls) else if w i && full i then Some (Publications b.shape.publications) else None) ∙ applied.step.in_limits))
+      by s t h1 h2 = grind arith

@@ -1,5 +1,5 @@
 -- What accesses of the guest reach is what the table says, whatever is wished.
-use Rattle.board_step.proofs.Basics.{◌≡◌, ℕ, Bool, true, false, cond, not, ◌&&◌, ◌||◌, nat_eq, ◌-◌, if◌then◌else◌, List, [], ◌∷◌, refl, ap, ◌∙◌, Some, None, true≢false, sym, is_some, list_all, Option, greatest_vector, Space, Pin, Source, Refusal, Reply, Done, Value, Exit, Part, Registry, Counters, Pic, Ioapic, Lapic, Shape, Pair, IoapicChip, LapicEffect, TriggerWord, Effect, Read, is_port, pair_write_to, pair_read_from, Written, write_to, resend_of, LocalApic, register_at, without_service, stored_at, store_effect, store_to, rung_by, Board, part_of, with_part, is_same, PicPart, pair_of, with_pair, IoapicPart, ioapic_of, with_ioapic, Routing, TargetAnswer, About, injected, ipi, Plan, done, reply, ◌>>=◌, ◌>>◌, Wishes, reaches, send, inject, acknowledge_each, is_ioapic_address, is_lapic_address, unless_refused, source_of, pins_with, end_vector, pic_pin, drop, ◌==◌, find, row_for, all_registers, ended, effect_at, reaches-bind, or_false, sends_reach, signals_reach_the_same, heard_of, Alike, alike_lapic, each_same, twice, resend_reach, each_reach, Call}
+use Rattle.board_step.proofs.Basics.{arith, ◌≡◌, ℕ, Bool, true, false, cond, not, ◌&&◌, ◌||◌, nat_eq, ◌-◌, if◌then◌else◌, List, [], ◌∷◌, refl, ap, ◌∙◌, Some, None, true≢false, sym, is_some, list_all, Option, greatest_vector, Space, Pin, Source, Refusal, Reply, Done, Value, Exit, Part, Registry, Counters, Pic, Ioapic, Lapic, Shape, Pair, IoapicChip, LapicEffect, TriggerWord, Effect, Read, is_port, pair_write_to, pair_read_from, Written, write_to, resend_of, LocalApic, register_at, without_service, stored_at, store_effect, store_to, rung_by, Board, part_of, with_part, is_same, PicPart, pair_of, with_pair, IoapicPart, ioapic_of, with_ioapic, Routing, TargetAnswer, About, injected, ipi, Plan, done, reply, ◌>>=◌, ◌>>◌, Wishes, reaches, send, inject, acknowledge_each, is_ioapic_address, is_lapic_address, unless_refused, source_of, pins_with, end_vector, pic_pin, drop, ◌==◌, find, row_for, all_registers, ended, effect_at, reaches-bind, or_false, sends_reach, signals_reach_the_same, heard_of, Alike, alike_lapic, each_same, twice, resend_reach, each_reach, Call}
 use Rattle.board_step.proofs.Basics.acks
 use Rattle.board_step.specs.Reach as table
 use Rattle.board_calls.specs.Accesses as accesses
@@ -22,8 +22,7 @@ each_passing P t told (x ∷ xs) pass = (told x (first (t x) (list_all t xs) pas
     first false b h = h
 
     second : (a b : Bool) → (a && b) ≡ true → b ≡ true
-    second true b h = h
-    second false b h = absurd (true≢false (sym h))
+    second a b h1 = grind arith
 
 -- it holds of the one that is found, or of none
 found_all : {X : Type 0} (P : Option X → Type 0) (p : X → Bool) (xs : List X) → P None → Each (λ x. P (Some x)) xs → P (find p xs)

@@ -218,8 +218,7 @@ module _ (routing : Routing) (shape : Shape) where
       same_message = ap message_of (accepted_entry (pin_acked chip pin) pin pin) ∙ either (nat_eq pin pin) (entry_at (pin_acked chip pin) pin) ∙ again_is (pin_acked chip pin) pin message sent
         where
           either : (t : Bool) (e : Entry) → message_of (if t then irr_accepted e else e) ≡ message_of e
-          either true e = refl
-          either false e = refl
+          either t e = grind arith
 
       within_again : Within again pin
       within_again h = ap (λ m. of_message m None shape.cpus q) (sym same_message) ∙ answer_within (pin_accepted (pin_acked chip pin) pin) pin shape.cpus q h

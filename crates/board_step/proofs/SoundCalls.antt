@@ -12,10 +12,7 @@ pub tick_injected_low : (s : TickState) (status : Status) (bound : ℕ) → s.pe
 tick_injected_low s status bound low = elim s.reinjects as (λ t. (if t then record s { free = is_ignored status } else s).pending ≤ bound) [ true ↦ low | false ↦ low ]
 
 tick_acked_low : (s : TickState) (bound : ℕ) → s.pending ≤ bound → (tick_acked s).pending ≤ bound
-tick_acked_low s bound low = elim s.reinjects as (λ t. (if t then record s { pending = s.pending - 1; free = true } else s).pending ≤ bound) [ true ↦ less s.pending low | false ↦ low ]
-  where
-    less : (n : ℕ) → n ≤ bound → n - 1 ≤ bound
-    less n low = omega arith
+tick_acked_low s bound h1 = grind arith
 
 pub tick_is_not : {A : Type 0} → TickSource ≡ Resample → A
 tick_is_not e = cc
@@ -27,8 +24,7 @@ pulse_is_not : {A : Type 0} → Pulse ≡ Resample → A
 pulse_is_not e = cc
 
 pub resamples_if : (b : Bool) → source_of b ≡ Resample → b ≡ true
-resamples_if true e = refl
-resamples_if false e = pulse_is_not e
+resamples_if b h1 = grind arith
 
 written_length : (io : Ioapic) (register : Register) (value : ℕ) → length (register_written io register value).after.entries ≡ length io.entries
 written_length io (ioregisters.LowHalf pin) value = length-set io.entries pin _

@@ -32,8 +32,7 @@ any_fewer p keep (x ∷ xs) e =
     ] e
   where
     later : (a b : Bool) → b ≡ true → (a || b) ≡ true
-    later true b e = refl
-    later false b e = e
+    later a b h1 = grind arith
 
 pub none_fewer : {X : Type 0} (p keep : X → Bool) (xs : List X) → list_any p xs ≡ false → list_any p (filter keep xs) ≡ false
 none_fewer p keep xs none = elim (list_any p (filter keep xs)) as (λ t. list_any p (filter keep xs) ≡ t → t ≡ false) [

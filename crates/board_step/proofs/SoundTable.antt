@@ -41,9 +41,7 @@ both_none ((false, r) ∷ xs) ys e = both_none xs ys e
 
 fits : (row : Row) → PayloadFits row → fits_if (msi_in row) ≡ true
 unfolding msi_in
-fits (Pic gsi pin) e = refl
-fits (Ioapic gsi pin) e = refl
-fits (Msi gsi address payload) e = grind (arith, nat_tests, e)
+fits row h1 = grind arith
 
 made_after : (earlier rows : List Row) → Made earlier → first_of (reasons_after earlier rows) ≡ None → All PayloadFits rows → Made (earlier ++ rows)
 unfolding reasons_after

@@ -8,6 +8,7 @@ pub fn leads_to_one()
 {}
 
 /// A law: the choices of a call can be followed, whatever it does: to wish for what it reached is to reach it again.
+#[tactic(auto, using(crate::proofs::Following::calls_steadily))]
 pub fn calls_steadily()
     ensures { CallsSteadily }
 {}
@@ -19,6 +20,7 @@ pub fn steps_are_followed()
 {}
 
 /// A law: a history leads from a board to one board at most, and that is the one which its entries tell.
+#[tactic(auto, using(crate::proofs::Following::board_after_is_reached))]
 pub fn board_after_is_reached()
     ensures { BoardAfterIsReached }
 {}

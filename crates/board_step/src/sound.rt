@@ -14,6 +14,7 @@ pub fn steps_keep_sound()
 {}
 
 /// A law: each board that a legal history of typed calls leads to is sound, where its shape is in limits.
+#[tactic(auto, using(crate::proofs::SoundSteps::histories_keep_sound))]
 pub fn histories_keep_sound()
     ensures { HistoriesKeepSound }
 {}
