@@ -64,8 +64,7 @@ module _ (routing : Routing) (shape : Shape) (rings : Bool) (may : ℕ → Bool)
       of_rung : (counter : Option ℕ) → Keeps (rung routing shape counter)
       of_rung None = answers Exit refl
       of_rung (Some counter) = λ b ws fit.
-          let m = ring_counter routing shape counter (routing.trigger counter) >> reply Done in
-          let r = quiet_conserving shape.tick rings (λ _. true) m (rung_quiet (λ _. true) routing shape counter (λ _. refl)) b ws in
+          let r = quiet_conserving shape.tick rings (λ _. true) (ring_counter routing shape counter (routing.trigger counter) >> reply Done) (rung_quiet (λ _. true) routing shape counter (λ _. refl)) b ws in
           record { reinjects = r.reinjects; pending = λ on. (omega (arith, (r.pending on))); stays = r.stays; allowed = (h, r.allowed); singly = (refl, λ quiet. let never : true ≡ false = quiet in cc) }
 
   port_out_keeps : (port len value : ℕ) → (is_port port ≡ true) ⊎ (rings ≡ true) → Keeps (port_out routing shape port len value)

@@ -41,8 +41,7 @@ pub none_left : (trigger gsi : ℕ) (rows : List Irqfd) (row : Irqfd) → AreApa
 none_left trigger gsi [] row apart e = refl
 none_left trigger gsi (x ∷ xs) row apart e = elim (is_named trigger gsi x) as (λ t. is_named trigger gsi x ≡ t → cond t (Some x) (find (is_named trigger gsi) xs) ≡ Some row → list_any (has_trigger trigger) (cond (not t) (x ∷ without_row xs trigger gsi) (without_row xs trigger gsi)) ≡ false) [
   | true ↦ λ on _.
-      let at : x.trigger ≡ trigger = (unsigned_Decides x.trigger trigger).0 (first_so (has_trigger trigger x) (nat_eq x.gsi gsi) on) in
-      none_fewer (has_trigger trigger) (λ other. not (is_named trigger gsi other)) xs (subst (λ (n : ℕ). list_any (has_trigger n) xs ≡ false) at apart.0)
+      none_fewer (has_trigger trigger) (λ other. not (is_named trigger gsi other)) xs (subst (λ (n : ℕ). list_any (has_trigger n) xs ≡ false) ((unsigned_Decides x.trigger trigger).0 (first_so (has_trigger trigger x) (nat_eq x.gsi gsi) on)) apart.0)
   | false ↦ λ _ later. or_both (has_trigger trigger x) (list_any (has_trigger trigger) (without_row xs trigger gsi)) (another later) (none_left trigger gsi xs row apart.1 later)
 ] refl e
   where

@@ -189,8 +189,7 @@ module _ (counter : ℕ) (b : Board) (ws : Wishes) where
 
     tick_silent : (P : Type 0) → TellsOnly P (plan_on b caller Call.Tick)
     tick_silent P rang =
-        let during = with_part b Part.Tick (ticked b.tick) in
-        absurd (none_rang (run (plan_on b caller Call.Tick) b ws).log.events (tick_keeps routing b.shape false (λ _. true) (ticked b.tick) (tick_injects b.tick) during ws).allowed rang)
+        absurd (none_rang (run (plan_on b caller Call.Tick) b ws).log.events (tick_keeps routing b.shape false (λ _. true) (ticked b.tick) (tick_injects b.tick) (with_part b Part.Tick (ticked b.tick)) ws).allowed rang)
 
     -- whatever the call is
     pub call_tells : (call : Call) → TellsOnly (rung_on b call ≡ Some counter) (plan_on b caller call)

@@ -70,9 +70,8 @@ module _ (cpus : ℕ) where
     accept_good rest h [] c ws fine each = h c ws fine
     accept_good rest h (n ∷ ns) c ws fine each =
         let v = accepted (part_of b (Lapic n)) message in
-        let number : v.number ≡ n = accepted_number (part_of b (Lapic n)) message ∙ numbers n in
         elim (contains takers n) as (λ t. GoodRun cpus ((if t then put (Lapic n) (accepted (part_of b (Lapic n)) message) (accept_each message takers (processors_on b ns)) else accept_each message takers (processors_on b ns)) >> rest) c ws) [
-          | true ↦ safe_put cpus (Lapic n) v (accept_each message takers (processors_on b ns) >> rest) c ws fine (number, keeps_either n (part_of c (Lapic n)) (each n))
+          | true ↦ safe_put cpus (Lapic n) v (accept_each message takers (processors_on b ns) >> rest) c ws fine ((accepted_number (part_of b (Lapic n)) message ∙ numbers n), keeps_either n (part_of c (Lapic n)) (each n))
               (λ fits. accept_good rest h ns (with_part c (Lapic n) v) ws fits (after_put MayAccept c n v (inr refl) each))
           | false ↦ accept_good rest h ns c ws fine each
         ]

@@ -142,16 +142,14 @@ module _ (r : RegistryPart) where
         let next : Plan (Unit {0}) = signal_each (resampled r.irqfds gsi) (resample_events r.irqfds gsi) in
         let o : Outcome (Unit {0}) = run (let_go targets Resample) b ws in
         let l : LetsGo r targets.pic targets.ioapic o = lets_go r targets.pic targets.ioapic b ws in
-        let acks : Acks r next = signal_acks r (resampled r.irqfds gsi) (resample_events r.irqfds gsi) (resamples_tell r (resampled r.irqfds gsi)) in
         let one : Does r b o = acks_quietly r (let_go targets Resample) (let_go_holds (left r) shape.cpus (left_signals r) targets Resample) b ws is in
         let last : Outcome (Unit {0}) = run next o.board o.wishes in
-        let two : Does r o.board last = acks o.board o.wishes one.registry in
-        let s : Said r (resample_events r.irqfds gsi) (with_part o.board Part.Counters (signalled_all o.board.counters (resampled r.irqfds gsi))) last = said r (resample_events r.irqfds gsi) (with_part o.board Part.Counters (signalled_all o.board.counters (resampled r.irqfds gsi))) o.wishes in
+        let two : Does r o.board last = (signal_acks r (resampled r.irqfds gsi) (resample_events r.irqfds gsi) (resamples_tell r (resampled r.irqfds gsi))) o.board o.wishes one.registry in
         subst (λ (x : Outcome (Unit {0})). Concerns gsi b x) (sym (run-bind (λ _. next) (let_go targets Resample) b ws)) (record {
           does = then_does r b o (λ _. next) one two;
           first = λ _. record {
             more = [];
-            events = ap (λ l. l ++ last.log.events) l.silent ∙ s.told ∙ sym (append-nil (resample_events r.irqfds gsi));
+            events = ap (λ l. l ++ last.log.events) l.silent ∙ (said r (resample_events r.irqfds gsi) (with_part o.board Part.Counters (signalled_all o.board.counters (resampled r.irqfds gsi))) o.wishes).told ∙ sym (append-nil (resample_events r.irqfds gsi));
             pic = λ pin e. two.pic pin (l.free_pic pin (same_number targets.pic pin (has_it r.table (Pin.Pic pin) gsi e)));
             ioapic = λ pin e. two.ioapic pin (l.free_ioapic pin (same_number targets.ioapic pin (has_it r.table (Pin.Ioapic pin) gsi e)));
           };
@@ -218,11 +216,9 @@ module _ (r : RegistryPart) where
     all_told gsi rest quietly b ws is =
         let due : List Event = resample_events r.irqfds gsi ++ watch_events r.watches gsi in
         let o : Outcome (Unit {0}) = run (tell_concerned routing (Some gsi)) b ws in
-        let c : Concerns gsi b o = tell_concerns gsi b ws is in
         let last : Outcome (Unit {0}) = run rest o.board o.wishes in
         let one : Gives due due = give_both (resample_events r.irqfds gsi) (watch_events r.watches gsi) (resample_events r.irqfds gsi) (watch_events r.watches gsi) (resamples_give (resampled r.irqfds gsi)) (watches_give (watched r.watches gsi)) in
-        let two : Gives [] last.log.events = quiet_give last.log.events (quietly o.board o.wishes c.does.registry).quiet in
-        let whole : Gives (due ++ []) (due ++ last.log.events) = give_both due last.log.events due [] one two in
+        let whole : Gives (due ++ []) (due ++ last.log.events) = give_both due last.log.events due [] one (quiet_give last.log.events (quietly o.board o.wishes (tell_concerns gsi b ws is).does.registry).quiet) in
         let events : (run (tell_concerned routing (Some gsi) >> rest) b ws).log.events ≡ due ++ last.log.events = ap (λ (x : Outcome (Unit {0})). x.log.events) (run-bind (λ _. rest) (tell_concerned routing (Some gsi)) b ws) ∙ ap (λ l. l ++ last.log.events) (concern_tells gsi b ws is) in
         ap signals_told events ∙ whole.told ∙ sym (ap (λ l. due ++ l) (ap (signals_owed r) events ∙ whole.owed))
 

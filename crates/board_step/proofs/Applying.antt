@@ -29,9 +29,8 @@ module _ (a : Inside) (rig : BoardRig) (ws : Wishes) (is : rig ≡ record a.rig 
   wishing_ran kept caller call reply before now after later h =
       let q = parts_of rig.parts in
       let words = words_in rig.words in
-      let did = tells_did (Ok reply) before now after later (run_on (plan_by words a.shape caller call) q rig.wishes) h in
       subst (λ (x : Board × Wishes). Ran x.0 caller call x.1 reply before now) (λ i. (wishing_is i, (is i).wishes))
-      (done_ran a.shape words q caller call rig.wishes (board_in wishing) (kept_is_of wishing (wishing_kept kept)) reply before now after later did)
+      (done_ran a.shape words q caller call rig.wishes (board_in wishing) (kept_is_of wishing (wishing_kept kept)) reply before now after later (tells_did (Ok reply) before now after later (run_on (plan_by words a.shape caller call) q rig.wishes) h))
 
 -- ---- before the call
 

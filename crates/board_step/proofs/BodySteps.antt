@@ -57,11 +57,10 @@ first_is r s e = cc
 module _ (b : Board) (caller : Caller) (call : Call) (q : Parts) (before events : List Event) (after : Parts) (later : Wishes) where
   leads : (result : Result Reply Lacks) (o : OnParts (Unit {0})) → Did result before events after later o → IsWorth b caller call q o → LeadsFrom b caller call q result before events after
   leads (Ok reply) (gives _ log left ws) did worth =
-      let same : worth.reply ≡ reply = first_is worth.reply reply (sym worth.answered ∙ did.answers) in
       record {
         told = log.events;
         noted = did.noted;
-        leads = subst (λ (x : Reply × Parts). IsStepFrom b caller call q x.1 x.0 log.events) (λ i. (same i, sym did.parts i)) worth.leads;
+        leads = subst (λ (x : Reply × Parts). IsStepFrom b caller call q x.1 x.0 log.events) (λ i. ((first_is worth.reply reply (sym worth.answered ∙ did.answers)) i, sym did.parts i)) worth.leads;
       }
   leads (Ok reply) (lacks p) did worth = absurd did
   leads (Err l) (gives _ log left ws) did worth = absurd did

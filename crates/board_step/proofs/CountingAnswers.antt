@@ -65,5 +65,4 @@ always_answers b caller call sound allowed free =
 -- a step from a sound board tells few events, whatever was wished
 pub steps_tell_few : StepsTellFew
 steps_tell_few b e c sound s =
-    let t : Told Any (most_events b.registry) 1 (outcome_of b e s.wishes) = told_of b e.caller e.call s.wishes in
-    subst (λ (events : List Event). length events ≤ 560) s.told (omega (arith, t.events_at_most, sound_events b sound))
+    subst (λ (events : List Event). length events ≤ 560) s.told (omega (arith, (told_of b e.caller e.call s.wishes).events_at_most, sound_events b sound))

@@ -28,9 +28,7 @@ pin_counts table place pin = by_gsi (gsi_of table pin) refl
     by_gsi None is = omega arith
     by_gsi (Some gsi) is = elim (nat_eq place gsi) as (λ t. nat_eq place gsi ≡ t → (if t then 1 else 0) ≤ pin_weight (targets_of table place) pin) [
       | true ↦ λ same.
-          let e : gsi ≡ place = grind (same, arith) in
-          let has : has_pin pin (targets_of table place) ≡ true = gsi_has_pin table pin place (is ∙ ap (λ g. Some g) e) in
-          subst (λ t. 1 ≤ (if t then 1 else 0)) (sym has) (omega arith)
+          subst (λ t. 1 ≤ (if t then 1 else 0)) (sym (gsi_has_pin table pin place (is ∙ ap (λ g. Some g) (grind (same, arith))))) (omega arith)
       | false ↦ λ _. omega arith
     ] refl
 

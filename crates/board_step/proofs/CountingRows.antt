@@ -135,9 +135,7 @@ module _ (routing : Routing) (shape : Shape) (registry : RegistryPart) where
 
   pub each_events-apart : (pins : List Pin) → AreApart routing.gsi_of pins → each_events routing shape registry pins ≤ apart_events registry pins
   each_events-apart pins apart =
-      let resampled = rows_once routing.gsi_of (λ row. row.gsi) resample_weight registry.irqfds pins apart in
-      let watched = rows_once routing.gsi_of (λ row. row.gsi) (λ row. 1) registry.watches pins apart in
-      omega (arith, each_events-count pins, resampled, watched, total_ones registry.watches, apart shape.tick)
+      omega (arith, each_events-count pins, (rows_once routing.gsi_of (λ row. row.gsi) resample_weight registry.irqfds pins apart), (rows_once routing.gsi_of (λ row. row.gsi) (λ row. 1) registry.watches pins apart), total_ones registry.watches, apart shape.tick)
 
   -- of some pins of a chip there are no more
   pub each_events-some : (chip : ℕ → Pin) (p : ℕ → Bool) (numbers : List ℕ) → each_events routing shape registry (map chip (filter p numbers)) ≤ each_events routing shape registry (map chip numbers)

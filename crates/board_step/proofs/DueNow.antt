@@ -68,6 +68,4 @@ apic_whole (place ∷ row) (suc n) m there = apic_whole row n m there
 
 pub kept_due : (a : Inside) (n : ℕ) → IsKept a → n < a.shape.cpus → due_in n (apic_in a.rig.parts.lapics n) (option_map (λ (c : pic.PicPart). c.pair) a.rig.parts.pic) ≡ due_by n (part_of (board_in a) (Lapic n)) (pair_of (board_in a).pic)
 kept_due a n kept low =
-    let apic = apic_whole a.rig.parts.lapics n n (kept.whole.each (Lapic n) (below_is n a.shape.cpus low)) in
-    let pair = pair_whole a.rig.parts.pic (kept.whole.each Pic refl) kept.pins.pic in
-    λ i. due_in n (apic i) (pair i)
+    λ i. due_in n ((apic_whole a.rig.parts.lapics n n (kept.whole.each (Lapic n) (below_is n a.shape.cpus low))) i) ((pair_whole a.rig.parts.pic (kept.whole.each Pic refl) kept.pins.pic) i)

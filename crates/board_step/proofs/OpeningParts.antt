@@ -50,23 +50,16 @@ opens_ioapic part chip holds fits = record { opens = λ i. record { entries = (c
 
 pub row_next : (n cpus : ℕ) → n < cpus → slice_set (opening_row n (cpus - n)) n (Some (power_on n)) ≡ opening_row (n + 1) (cpus - (n + 1))
 row_next n cpus low =
-    let xs = map (λ a. Some a) (map power_on (numbers_below n)) in
     let left = cpus - (n + 1) in
-    let more : cpus - n ≡ suc left = omega (arith, low) in
-    let many : length xs ≡ n = length-map (map power_on (numbers_below n)) (λ a. Some a) ∙ apics_many n in
-    ap (λ k. slice_set (opening_row n k) n (Some (power_on n))) more
-    ∙ ap (λ k. slice_set (opening_row n (suc left)) k (Some (power_on n))) (sym many)
-    ∙ put_first xs left (Some (power_on n))
+    ap (λ k. slice_set (opening_row n k) n (Some (power_on n))) (omega (arith, low))
+    ∙ ap (λ k. slice_set (opening_row n (suc left)) k (Some (power_on n))) (sym (length-map (map power_on (numbers_below n)) (λ a. Some a) ∙ apics_many n))
+    ∙ put_first (map (λ a. Some a) (map power_on (numbers_below n))) left (Some (power_on n))
     ∙ ap (λ l. l ++ replicate left None) (sym (ap (map (λ a. Some a)) (map-append power_on (numbers_below n) (n ∷ [])) ∙ map-append (λ a. Some a) (map power_on (numbers_below n)) (power_on n ∷ [])))
     ∙ ap (λ k. opening_row k left) (sym (add-one n))
 
 pub length-opening_row : (n left : ℕ) → length (opening_row n left) ≡ n + left
 length-opening_row n left =
-    let xs = map (λ a. Some a) (map power_on (numbers_below n)) in
-    let p : length xs ≡ n = length-map (map power_on (numbers_below n)) (λ a. Some a) ∙ apics_many n in
-    let q = length-append xs (replicate left None) in
-    let r = length-replicate left (let x : Option LocalApic = None in x) in
-    omega (arith, p, q, r)
+    omega (arith, (length-map (map power_on (numbers_below n)) (λ a. Some a) ∙ apics_many n), (length-append (map (λ a. Some a) (map power_on (numbers_below n))) (replicate left None)), (length-replicate left (let x : Option LocalApic = None in x)))
 
 -- ---- the board at power-on
 

@@ -48,8 +48,7 @@ module _ (b : Board) (caller : Caller) (ws : Wishes) where
   shows_in_range : (call : Call) (r : Reply) → first_of (later_reasons b call) ≡ None → answers_of (plan_in_range routing b.shape (number_of caller) call) ≡ r ∷ [] → does_publish b call ≡ did_publish call r
   shows_in_range (Call.Reroute rows) r free answers = ap (λ l. is_done (first_reply l)) answers
   shows_in_range (Call.Assign trigger gsi resample) r free answers =
-      let plan = assigned routing b.shape b.registry b.counters trigger gsi resample in
-      sym (ap is_done (answers_last (inject_count routing b.shape gsi resample _) Done r _ ws (sym (is_free _ plan free) ∙ answers)))
+      sym (ap is_done (answers_last (inject_count routing b.shape gsi resample _) Done r _ ws (sym (is_free _ (assigned routing b.shape b.registry b.counters trigger gsi resample) free) ∙ answers)))
   shows_in_range (Call.Watch counter gsi) r free answers = ap (λ l. is_done (first_reply l)) (sym (is_free _ _ free) ∙ answers)
   shows_in_range (Call.Unwatch counter gsi) r free answers = ap (λ l. is_done (first_reply l)) (sym (is_free _ _ free) ∙ answers)
   shows_in_range (Call.Deassign trigger gsi) r free answers = by_row (named_row b.registry.irqfds trigger gsi) answers
@@ -57,8 +56,7 @@ module _ (b : Board) (caller : Caller) (ws : Wishes) where
       by_row : (row : Option Irqfd) → answers_of (deassigned routing b.registry trigger gsi row) ≡ r ∷ [] → is_some row ≡ is_removed r
       by_row None answers = ap (λ l. is_removed (first_reply l)) answers
       by_row (Some row) answers =
-          let rows = without_row b.registry.irqfds trigger gsi in
-          sym (ap is_removed (answers_last (release routing gsi (was_last_resampler row rows)) (Removed 1) r _ ws answers))
+          sym (ap is_removed (answers_last (release routing gsi (was_last_resampler row (without_row b.registry.irqfds trigger gsi))) (Removed 1) r _ ws answers))
   shows_in_range _ r free answers = refl
 
   shows : (call : Call) (r : Reply) → answers_of (plan_on b caller call) ≡ r ∷ [] → would_publish b call ≡ did_publish call r
@@ -69,8 +67,7 @@ module _ (b : Board) (caller : Caller) (ws : Wishes) where
           let none = none_of_both (range_reasons b.shape call) (later_reasons b call) is in
           shows_in_range call r none.1 (sym (is_free _ (plan_in_range routing b.shape (number_of caller) call) none.0) ∙ answers)
       by_refusal (Some refusal) is =
-          let replied : r ≡ Refused refusal = ap first_reply (sym answers ∙ (refuses_first b caller call ws refusal is).answers) in
-          sym (ap (did_publish call) replied ∙ (grind arith))
+          sym (ap (did_publish call) (ap first_reply (sym answers ∙ (refuses_first b caller call ws refusal is).answers)) ∙ (grind arith))
 
 pub steps_show_publications : StepsShowPublications
 steps_show_publications b e c step = shows b e.caller step.wishes e.call e.reply step.replied

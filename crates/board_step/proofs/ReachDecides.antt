@@ -32,8 +32,7 @@ equal_part b d _ same = same
 -- boards of one shape that publish the same words have one plan for a call
 one_plan : (b d : Board) (caller : Caller) (call : Call) → IsSound b → IsSound d → AgreesForCall b d caller call → plan_on d caller call ≡ plan_on b caller call
 one_plan b d caller call sound other agrees =
-    let routing : routing_of_registry b.registry b.shape.tick ≡ routing_of_registry d.registry d.shape.tick = published_decides b.registry d.registry b.shape.tick d.shape.tick sound.registry other.registry agrees.words in
-    λ i. plan_of (sym routing i) (sym agrees.shape i) caller call
+    λ i. plan_of (sym (published_decides b.registry d.registry b.shape.tick d.shape.tick sound.registry other.registry agrees.words) i) (sym agrees.shape i) caller call
 
 pub depends_on_reach : DependsOnReach
 depends_on_reach b d e c sound other agrees in_limits step = record {

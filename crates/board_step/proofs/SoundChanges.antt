@@ -76,11 +76,10 @@ module _ (shape : Shape) (bound : ℕ) (b : Board) (ws : Wishes) (w : Whole shap
   pub attach_whole : (row : IoRow) → row.counter < shape.counters → Whole shape bound (run (attach row) b ws).board
   attach_whole row below = unless_whole shape bound b ws (first_of (attach_reasons b.registry row)) _ w (λ none.
       let clash = no_reason (list_any (λ other. do_collide other row) b.registry.ioevents) Exists ((nat_le 256 (length b.registry.ioevents), Full) ∷ []) none in
-      let full : length b.registry.ioevents < 256 = less_of 256 (length b.registry.ioevents) (no_reason (nat_le 256 (length b.registry.ioevents)) Full [] clash.1).0 in
       with_events (b.registry.ioevents ++ row ∷ [])
       (All-push (λ (e : IoRow). e.counter < shape.counters) b.registry.ioevents row w.fine.named.ioevents below)
       (pairs_push (λ (row other : IoRow). do_collide row other ≡ false) b.registry.ioevents row w.fine.distinct.ioevents (each_fails (λ other. do_collide other row) b.registry.ioevents clash.0))
-      (omega (arith, length-append b.registry.ioevents (row ∷ []), full)))
+      (omega (arith, length-append b.registry.ioevents (row ∷ []), (less_of 256 (length b.registry.ioevents) (no_reason (nat_le 256 (length b.registry.ioevents)) Full [] clash.1).0))))
 
   pub detach_whole : (row : IoRow) → Whole shape bound (run (detach row) b ws).board
   detach_whole row = unless_whole shape bound b ws (first_of (detach_reasons b.registry row)) _ w (λ _.
@@ -109,12 +108,11 @@ module _ (shape : Shape) (bound : ℕ) (b : Board) (ws : Wishes) (w : Whole shap
       let row : Watch = record { counter = counter; gsi = gsi } in
       let clash = no_reason (is_trigger b.registry counter) RoleClash ((has_watch_row rows counter gsi, Exists) ∷ (nat_le 256 (length rows), Full) ∷ []) none in
       let there = no_reason (has_watch_row rows counter gsi) Exists ((nat_le 256 (length rows), Full) ∷ []) clash.1 in
-      let full : length rows < 256 = less_of 256 (length rows) (no_reason (nat_le 256 (length rows)) Full [] there.1).0 in
       with_watches (rows ++ row ∷ [])
       (All-push (WatchFits shape.counters) rows row w.fine.named.watches (record { counter = below; gsi = low }))
       (pairs_push (λ (row other : Watch). is_named_watch row.counter row.gsi other ≡ false) rows row w.fine.distinct.watches
       (All-weaker (λ (other : Watch). is_named_watch counter gsi other ≡ false) (λ (other : Watch). is_named_watch other.counter other.gsi row ≡ false) (λ other off. (grind (arith, off))) rows (each_fails (is_named_watch counter gsi) rows there.0)))
-      (omega (arith, length-append rows (row ∷ []), full))
+      (omega (arith, length-append rows (row ∷ []), (less_of 256 (length rows) (no_reason (nat_le 256 (length rows)) Full [] there.1).0)))
       (roles_more (λ n. list_any (has_resample n) b.registry.irqfds) rows row b.registry.irqfds w.fine.distinct.roles (each_fails (has_trigger counter) b.registry.irqfds clash.0)))
 
   pub unwatch_whole : (counter gsi : ℕ) → Whole shape bound (run (unwatch counter gsi) b ws).board
@@ -176,9 +174,8 @@ module _ (shape : Shape) (bound : ℕ) (b : Board) (ws : Wishes) (w : Whole shap
       let busy = no_reason (is_trigger r row.trigger) Busy ((is_signalled r row.trigger || resample_clashes r row.trigger row.resample, RoleClash) ∷ []) none in
       let roles = or_neither (is_signalled r row.trigger) (resample_clashes r row.trigger row.resample) (no_reason (is_signalled r row.trigger || resample_clashes r row.trigger row.resample) RoleClash [] busy.1).0 in
       let free = clash_free r row.trigger row.resample roles.1 in
-      let low : row.trigger < shape.counters = fits.trigger in
       record {
-        sound = record { table = w.fine.sound.table; irqfds = All-push IsSoundIrqfd r.irqfds row w.fine.sound.irqfds (record { trigger = omega (arith, low, few); gsi = fits.gsi }); watches = w.fine.sound.watches; ticks = w.fine.sound.ticks };
+        sound = record { table = w.fine.sound.table; irqfds = All-push IsSoundIrqfd r.irqfds row w.fine.sound.irqfds (record { trigger = omega (arith, fits.trigger, few); gsi = fits.gsi }); watches = w.fine.sound.watches; ticks = w.fine.sound.ticks };
         named = record { irqfds = All-push (IrqfdFits shape.counters) r.irqfds row w.fine.named.irqfds fits; watches = w.fine.named.watches; ioevents = w.fine.named.ioevents };
         distinct = record {
           triggers = pairs_push (λ (a c : Irqfd). has_trigger a.trigger c ≡ false) r.irqfds row w.fine.distinct.triggers

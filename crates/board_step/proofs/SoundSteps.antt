@@ -43,8 +43,7 @@ module _ (b : Board) (ws : Wishes) (fine : RegistryFine b.shape b.registry) (eac
   in_range n (Reroute rows) typed none = reroute_whole b.shape bound b ws whole rows none typed
   in_range n (Attach space address len counter want) typed none =
       let one = no_reason (bad_ioevent space address len want).0 BadRange (bad_counter b.shape counter ∷ (is_chip_address space address, ChipAddress) ∷ []) none in
-      let two = no_reason (nat_le b.shape.counters counter) NoCounter ((is_chip_address space address, ChipAddress) ∷ []) one.1 in
-      attach_whole b.shape bound b ws whole (io_row space address len counter want) (less_of b.shape.counters counter two.0)
+      attach_whole b.shape bound b ws whole (io_row space address len counter want) (less_of b.shape.counters counter (no_reason (nat_le b.shape.counters counter) NoCounter ((is_chip_address space address, ChipAddress) ∷ []) one.1).0)
   in_range n (Detach space address len counter want) typed none = detach_whole b.shape bound b ws whole (io_row space address len counter want)
   in_range n (Watch counter gsi) typed none =
       let one = no_reason (nat_le b.shape.counters counter) NoCounter (bad_gsi gsi ∷ []) none in

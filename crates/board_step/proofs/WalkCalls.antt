@@ -92,9 +92,8 @@ module _ (w : Walk) (routing : Routing) (shape : Shape) where
     pub pair_write_holds : (port len value : ℕ) → Holds w (pair_write routing shape port len value)
     pair_write_holds port len value = λ b ws fit.
         let effect = pair_write_to (pair_of b.pic) port value in
-        let first = if nat_eq len 1 then pair_written routing shape b.pic effect else done tt in
         w.looks Pic (λ pic. (if nat_eq len 1 then pair_written routing shape pic (pair_write_to (pair_of pic) port value) else done tt) >> reply Done) b ws
-        (w.binds (λ _. reply Done) first b ws fit
+        (w.binds (λ _. reply Done) (if nat_eq len 1 then pair_written routing shape b.pic effect else done tt) b ws fit
         (either_at w (nat_eq len 1) (pair_written routing shape b.pic effect) (done tt) b ws
         (w.puts Pic (with_pair b.pic effect.after) (acknowledge_each routing shape (pic_pin effect.pin)) b ws fit (a.pairs effect.after b fit) (a.acks (pic_pin effect.pin) (with_part b Pic (with_pair b.pic effect.after)) ws))
         (w.ends tt b ws fit))
@@ -115,9 +114,8 @@ module _ (w : Walk) (routing : Routing) (shape : Shape) where
     pub ioapic_store_holds : (offset len value : ℕ) → Holds w (ioapic_store shape offset len value)
     ioapic_store_holds offset len value = λ b ws fit.
         let made = write_to (ioapic_of b.ioapic) offset value in
-        let first = if nat_eq len 4 then ioapic_written shape b.ioapic made else done tt in
         w.looks Ioapic (λ part. (if nat_eq len 4 then ioapic_written shape part (write_to (ioapic_of part) offset value) else done tt) >> reply Done) b ws
-        (w.binds (λ _. reply Done) first b ws fit
+        (w.binds (λ _. reply Done) (if nat_eq len 4 then ioapic_written shape b.ioapic made else done tt) b ws fit
         (either_at w (nat_eq len 4) (ioapic_written shape b.ioapic made) (done tt) b ws
         (w.puts Ioapic (with_ioapic b.ioapic made.after) (resend_written shape made.pin) b ws fit (a.stores offset value b fit) (resend_written_holds made.pin (with_part b Ioapic (with_ioapic b.ioapic made.after)) ws))
         (w.ends tt b ws fit))
@@ -131,9 +129,8 @@ module _ (w : Walk) (routing : Routing) (shape : Shape) where
     pub lapic_store_holds : (n offset len value : ℕ) → Holds w (lapic_store routing shape n offset len value)
     lapic_store_holds n offset len value = λ b ws fit.
         let apic = part_of b (Lapic n) in
-        let first = if nat_eq len 4 then lapic_stored routing shape n (store_to apic offset value) (store_effect apic offset value) else done tt in
         w.looks (Lapic n) (λ apic. (if nat_eq len 4 then lapic_stored routing shape n (store_to apic offset value) (store_effect apic offset value) else done tt) >> reply Done) b ws
-        (w.binds (λ _. reply Done) first b ws fit
+        (w.binds (λ _. reply Done) (if nat_eq len 4 then lapic_stored routing shape n (store_to apic offset value) (store_effect apic offset value) else done tt) b ws fit
         (either_at w (nat_eq len 4) (lapic_stored routing shape n (store_to apic offset value) (store_effect apic offset value)) (done tt) b ws
         (w.puts (Lapic n) (store_to apic offset value) (store_effects routing shape n (store_effect apic offset value)) b ws fit (a.registers n offset value b fit)
         (effects_hold n (store_effect apic offset value) (with_part b (Lapic n) (store_to apic offset value)) ws))
@@ -150,10 +147,9 @@ module _ (w : Walk) (routing : Routing) (shape : Shape) where
 
       pub store_holds : (n address len value : ℕ) → Holds w (store routing shape n address len value)
       store_holds n address len value =
-          let chip = ioapic_store shape (address - 0xfec00000) len value in
           let own = lapic_store routing shape n (address - 0xfee00000) len value in
           let other = ring routing shape Space.Memory address len value in
-          either w (is_ioapic_address address) chip (if is_lapic_address address then own else other) (ioapic_store_holds (address - 0xfec00000) len value)
+          either w (is_ioapic_address address) (ioapic_store shape (address - 0xfec00000) len value) (if is_lapic_address address then own else other) (ioapic_store_holds (address - 0xfec00000) len value)
           (either w (is_lapic_address address) own other (lapic_store_holds n (address - 0xfee00000) len value) (ring_holds Space.Memory address len value))
 
     pub port_in_holds : (port len : ℕ) → Holds w (port_in routing shape port len)
@@ -161,9 +157,8 @@ module _ (w : Walk) (routing : Routing) (shape : Shape) where
 
     pub load_holds : (n address len : ℕ) → Holds w (load n address len)
     load_holds n address len =
-        let chip = ioapic_load (address - 0xfec00000) len in
         let own = lapic_load n (address - 0xfee00000) len in
-        either w (is_ioapic_address address) chip (if is_lapic_address address then own else reply Exit)
+        either w (is_ioapic_address address) (ioapic_load (address - 0xfec00000) len) (if is_lapic_address address then own else reply Exit)
         (looked w Ioapic (λ part. reply (Value (if nat_eq len 4 then read_from (ioapic_of part) (address - 0xfec00000) else 0))) (λ part _. a.replies (Value _) refl))
         (either w (is_lapic_address address) own (reply Exit)
         (looked w (Lapic n) (λ apic. reply (Value (if nat_eq len 4 then load_of apic (address - 0xfee00000) else 0))) (λ apic _. a.replies (Value _) refl)) (a.replies Exit refl))
@@ -207,9 +202,8 @@ module _ (w : Walk) (routing : Routing) (shape : Shape) where
   -- a count that is written, unless it would be past the greatest
   pub count_holds : ((r : Reply) → is_signal r ≡ false → Holds w (reply r)) → (counter n : ℕ) → ((b : Board) → w.Fit b → first_of (write_reasons b.counters counter n) ≡ None → w.May b Counters (count_of b.counters counter n)) → Holds w (count_written counter n)
   count_holds plain counter n may = λ b ws fit.
-      let m = put Counters (count_of b.counters counter n) (reply Done) in
       w.looks Counters (λ counts. unless_refused (first_of (write_reasons counts counter n)) (put Counters (count_of counts counter n) (reply Done))) b ws
-      (unless_at plain (first_of (write_reasons b.counters counter n)) m b ws fit
+      (unless_at plain (first_of (write_reasons b.counters counter n)) (put Counters (count_of b.counters counter n) (reply Done)) b ws fit
       (λ none. w.puts Counters (count_of b.counters counter n) (reply Done) b ws fit (may b fit none) (plain Done refl (with_part b Counters (count_of b.counters counter n)) ws)))
 
   -- ---- calls whose sendings show in the reply

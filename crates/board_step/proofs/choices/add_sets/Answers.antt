@@ -4,14 +4,10 @@ use Rattle.board_step.proofs.choices.add_sets.Goals as goal
 
 pub returns-then-not-is_empty : goal.returns-then-not-is_empty
 returns-then-not-is_empty c =
-    let s : Sent = record { new = c.args.new.now; stood = c.args.stood.now } in
     let on = c.if-not-is_empty.true in
-    let off : c.is_empty.result ≡ false = grind arith in
-    c.put_first.ensures ∙ sym (ap (λ ws. ws ++ c.args.wishes.now) (somebody s c.join-reached.result c.join-reached.ensures (λ none. true≢false (sym (c.is_empty.ensures.1 none) ∙ off))))
+    c.put_first.ensures ∙ sym (ap (λ ws. ws ++ c.args.wishes.now) (somebody (record { new = c.args.new.now; stood = c.args.stood.now }) c.join-reached.result c.join-reached.ensures (λ none. true≢false (sym (c.is_empty.ensures.1 none) ∙ (grind arith)))))
 
 pub returns-else-not-is_empty : goal.returns-else-not-is_empty
 returns-else-not-is_empty c =
-    let s : Sent = record { new = c.args.new.now; stood = c.args.stood.now } in
     let off = c.if-not-is_empty.false in
-    let on : IsTrue c.is_empty.result = grind arith in
-    sym (ap (λ ws. ws ++ c.args.wishes.now) (unwished s (sym c.join-reached.ensures ∙ c.is_empty.ensures.0 on)))
+    sym (ap (λ ws. ws ++ c.args.wishes.now) (unwished (record { new = c.args.new.now; stood = c.args.stood.now }) (sym c.join-reached.ensures ∙ c.is_empty.ensures.0 (grind arith))))

@@ -7,16 +7,13 @@ pub loop-k-preserved : goal.loop-k-preserved
 loop-k-preserved c =
     let k = c.loop-k.k - 1 in
     let event = c.at.result.now in
-    let events = c.args.events.now in
     let next : c.loop-k.k ≡ k + 1 = omega (c.loop-k-test.true, arith) in
-    let few : length (wish_shown event) ≤ 1 = event_few event in
-    let count : length c.add_event.new.wishes ≡ length (wish_shown event) + length c.loop-k.wishes = ap (λ ws. length ws) c.add_event.ensures ∙ length-append (wish_shown event) c.loop-k.wishes in
     record {
       within = omega (c.loop-k.invariant.within, arith);
-      room = omega (few, count, next, c.loop-k.invariant.room, arith);
+      room = omega ((event_few event), (ap (λ ws. length ws) c.add_event.ensures ∙ length-append (wish_shown event) c.loop-k.wishes), next, c.loop-k.invariant.room, arith);
       shown =
           c.add_event.ensures
           ∙ ap (λ ws. wish_shown event ++ ws) c.loop-k.invariant.shown
           ∙ sym (append_assoc (wish_shown event) _ _)
-          ∙ ap (λ xs. wishes_told xs ++ wish_replied c.args.reply.now) (sym (drop_here events k c.loop-k.k event next c.at.ensures));
+          ∙ ap (λ xs. wishes_told xs ++ wish_replied c.args.reply.now) (sym (drop_here c.args.events.now k c.loop-k.k event next c.at.ensures));
     }

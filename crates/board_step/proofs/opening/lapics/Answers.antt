@@ -4,9 +4,7 @@ use Rattle.board_step.proofs.opening.lapics.Goals as goal
 
 pub put-requires : goal.put-requires
 put-requires c =
-    let many = length-opening_row c.loop-n.n (c.args.cpus - c.loop-n.n) in
-    let low = c.loop-n-test.true in
-    subst (λ row. c.loop-n.n < length row) (sym c.loop-n.invariant) (omega (arith, many, low))
+    subst (λ row. c.loop-n.n < length row) (sym c.loop-n.invariant) (omega (arith, (length-opening_row c.loop-n.n (c.args.cpus - c.loop-n.n)), c.loop-n-test.true))
 
 pub loop-n-preserved : goal.loop-n-preserved
 loop-n-preserved c =

@@ -7,5 +7,4 @@ returns-then-is_ended c = vector_found c.args.seen.now c.args.vector c.args.part
 
 pub returns : goal.returns
 returns c =
-    let last : c.loop-pin.pin ≡ 24 = omega (arith, c.loop-pin.invariant.0) in
-    vector_none c.args.seen.now c.args.vector c.args.part c.loop-pin.pin last c.loop-pin.invariant.1
+    vector_none c.args.seen.now c.args.vector c.args.part c.loop-pin.pin (omega (arith, c.loop-pin.invariant.0)) c.loop-pin.invariant.1

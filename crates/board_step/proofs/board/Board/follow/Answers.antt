@@ -4,8 +4,7 @@ use Rattle.board_step.proofs.board.Board.follow.Goals as goal
 
 pub returns-then-len-gt560-clause-exactly : goal.returns-then-len-gt560-clause-exactly
 returns-then-len-gt560-clause-exactly c =
-    let many : 560 < length c.args.events.now = omega (c.if-len-gt560.true, c.len.ensures, arith) in
-    (λ is. absurd (true≢false (sym is)), λ on. absurd (never_many c.args.self.now c.keeps_sound.ensures c.args.caller c.args.call.now c.args.reply.now c.args.events.now many on))
+    (λ is. absurd (true≢false (sym is)), λ on. absurd (never_many c.args.self.now c.keeps_sound.ensures c.args.caller c.args.call.now c.args.reply.now c.args.events.now (omega (c.if-len-gt560.true, c.len.ensures, arith)) on))
 
 pub returns-in-Err-clause-exactly : goal.returns-in-Err-clause-exactly
 returns-in-Err-clause-exactly c = (

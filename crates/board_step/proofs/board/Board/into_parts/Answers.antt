@@ -20,9 +20,7 @@ returns-clause-fits c =
 
 pub returns-clause-whole : goal.returns-clause-whole
 returns-clause-whole c =
-    let a = c.self.inside in
-    let whole : IsWhole a.shape (parts_of c.into_parts.result.0) = subst (λ (p : code.Parts). IsWhole a.shape (parts_of p)) (sym c.into_parts.ensures.parts) c.self.invariant.whole in
-    subst (λ (b : Board). IsWhole b.shape (parts_of c.into_parts.result.0)) c.self.view_is whole
+    subst (λ (b : Board). IsWhole b.shape (parts_of c.into_parts.result.0)) c.self.view_is (subst (λ (p : code.Parts). IsWhole c.self.inside.shape (parts_of p)) (sym c.into_parts.ensures.parts) c.self.invariant.whole)
 
 pub returns-clause-made : goal.returns-clause-made
 returns-clause-made c =
