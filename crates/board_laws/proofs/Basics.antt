@@ -13,6 +13,7 @@ pub use Rattle.board_step.proofs.Basics.{About, Acked, All, All-append, All-cons
 unfoldable pub use Rattle.board_step.proofs.Basics.{Each, gsi_of}
 pub use Rattle.board_step.proofs.CallManner.{call_keeps, ends, or_true, refuses_in, replies_in, writes_in}
 pub use Rattle.board_step.proofs.Following.{next_is, steps_are_followed}
+pub use Rattle.board_step.proofs.Publishing.{last_is_one}
 pub use Rattle.board_step.proofs.SoundCalls.{line_is_not, resamples_if, tick_is_not}
 pub use Rattle.board_step.proofs.SoundChanges.{more_resampler, own_row}
 pub use Rattle.board_step.proofs.SoundHolds.{less_for, more_for}
@@ -21,4 +22,4 @@ pub use Rattle.board_step.proofs.SoundOpening.{apics_many, apics_numbered, numbe
 pub use Rattle.board_step.proofs.SoundRegistry.{IsMade, ioapic_resamples, irqfd_resamples, pic_resamples}
 pub use Rattle.board_step.proofs.SoundRows.{each_fails, none_fewer, or_both, or_neither, pairs_push}
 pub use Rattle.board_step.proofs.SoundSends.{accepted_number}
-pub use Rattle.board_step.proofs.Walks.{Accesses, Ends, Holds, KeptByCalls, KeptBySignals, MayRaise, Open, Replied, Shows, Signals, Tells, Walk, accept_pin_holds, acks_hold, after, assign_holds, attach_holds, calls_kept, changed, count_holds, cycle_at, deassign_holds, detach_holds, either, end_level_holds, end_tick_holds, ended, eoi_holds, ignored, inject_count_holds, inject_holds, inject_only, inject_tick_holds, inta_holds, ioapic_store_holds, is_plain, is_signal, lapic_store_holds, let_go_holds, line_holds, load_holds, message_holds, next_holds, of_log, of_relation, open_accesses, open_raise, open_replied, open_rings, open_shows, open_signals, pair_read_holds, pair_write_holds, plain_holds, port_in_holds, port_out_holds, reroute_holds, resend_holds, ring_holds, rung_holds, shows, shows_by, signals_kept, store_holds, take_holds, tell_holds, tells_by, tick_kept, tick_mode_holds, tick_or_hold_holds, unless_holds, unwatch_holds, walk, watch_holds, write_holds}
+pub use Rattle.board_step.proofs.Walks.{bound, let_go_after_holds, raise_pic_holds, Accesses, Ends, Holds, KeptByCalls, KeptBySignals, MayRaise, Open, Replied, Shows, Signals, Tells, Walk, accept_pin_holds, acks_hold, after, assign_holds, attach_holds, calls_kept, changed, count_holds, cycle_at, deassign_holds, detach_holds, either, end_level_holds, end_tick_holds, ended, eoi_holds, ignored, inject_count_holds, inject_holds, inject_only, inject_tick_holds, inta_holds, ioapic_store_holds, is_plain, is_signal, lapic_store_holds, let_go_holds, line_holds, load_holds, message_holds, next_holds, of_log, of_relation, open_accesses, open_raise, open_replied, open_rings, open_shows, open_signals, pair_read_holds, pair_write_holds, plain_holds, port_in_holds, port_out_holds, reroute_holds, resend_holds, ring_holds, rung_holds, shows, shows_by, signals_kept, store_holds, take_holds, tell_holds, tells_by, tick_kept, tick_mode_holds, tick_or_hold_holds, unless_holds, unwatch_holds, walk, watch_holds, write_holds}

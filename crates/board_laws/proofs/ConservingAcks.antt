@@ -260,7 +260,7 @@ module _ (routing : Routing) (shape : Shape) (rings : Bool) where
   inject_singly : (may : ℕ → Bool) → DueSingly may true (inject_tick routing shape (λ pic. injected shape.tick pic))
   inject_singly may = λ b ws.
       let one = injects_before shape.tick (λ status. change Part.Tick (λ tick. tick_injected tick status)) (inject shape.cpus (routing.targets shape.tick) TickSource (λ pic. injected shape.tick pic))
-      (inject_injects shape.tick shape.cpus (routing.targets shape.tick) TickSource) (λ status b ws. refl) b ws in
+      (inject_injects shape.tick shape.cpus (routing.targets shape.tick) TickSource) (λ status b ws fit. refl) b ws in
       subst (λ (events : List Event). Singly shape.tick may true events) (sym one.1) (or_right (may shape.tick) (nat_eq shape.tick shape.tick) (same shape.tick), λ _. tt)
     where
       same : (n : ℕ) → nat_eq n n ≡ true

@@ -21,7 +21,7 @@ module _ (b : Board) (ws : Wishes) where
   count_makes gsi resample true d = inr
       (injects_before gsi (λ _. reply Done) (inject_count routing b.shape gsi resample true)
       (injects_before gsi (λ _. done tt) (inject b.shape.cpus (routing.targets gsi) (source_of (is_some resample)) (λ pic. injected gsi pic))
-      (inject_injects gsi b.shape.cpus (routing.targets gsi) (source_of (is_some resample))) (λ _ b ws. refl)) (λ _ b ws. refl) d ws)
+      (inject_injects gsi b.shape.cpus (routing.targets gsi) (source_of (is_some resample))) (λ _ b ws fit. refl)) (λ _ b ws fit. refl) d ws)
 
   assign_makes : (caller : Caller) (trigger gsi : ℕ) (resample : Option ℕ) → Makes gsi (plan_on b caller (Call.Assign trigger gsi resample)) b
   assign_makes caller trigger gsi resample =
@@ -38,7 +38,7 @@ module _ (b : Board) (ws : Wishes) where
     own (Some trigger) =
         let one = injects_before trigger.gsi (λ _. reply Done) (ring_counter routing b.shape counter (Some trigger))
         (injects_before trigger.gsi (λ _. done tt) (inject b.shape.cpus (routing.targets trigger.gsi) (source_of trigger.resample) (λ pic. injected trigger.gsi pic))
-        (inject_injects trigger.gsi b.shape.cpus (routing.targets trigger.gsi) (source_of trigger.resample)) (λ _ b ws. refl)) (λ _ b ws. refl) b ws in
+        (inject_injects trigger.gsi b.shape.cpus (routing.targets trigger.gsi) (source_of trigger.resample)) (λ _ b ws fit. refl)) (λ _ b ws fit. refl) b ws in
         (one.0, ap (λ (l : List Event). Rang counter ∷ l) one.1)
 
     -- a write that rings it is refused, or tells what a ring does

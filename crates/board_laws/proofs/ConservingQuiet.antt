@@ -45,15 +45,13 @@ module _ (may : ℕ → Bool) where
 
   sent_quiet : (about : About) (sent : Sent) → shows_quietly may about ≡ true → AreQuiet may (events_of about sent)
   sent_quiet (injected gsi pic) sent h = (h, tt)
-  sent_quiet (resent pin) sent h = (refl, tt)
-  sent_quiet ipi sent h = (refl, tt)
   sent_quiet (the_reply pic) sent h = tt
+  sent_quiet _ sent h = (refl, tt)
 
   shown_quiet : (about : About) (other : Option TargetAnswer) → shows_quietly may about ≡ true → Holds still (show about other)
   shown_quiet (injected gsi pic) other h = λ b ws fit. (refl, (h, tt))
-  shown_quiet (resent pin) other h = λ b ws fit. (refl, (refl, tt))
-  shown_quiet ipi other h = λ b ws fit. (refl, (refl, tt))
   shown_quiet (the_reply pic) other h = λ b ws fit. (refl, tt)
+  shown_quiet _ other h = λ b ws fit. (refl, (refl, tt))
 
   pub still_shows : {cpus : ℕ} (about : About) → shows_quietly may about ≡ true → Shows still cpus about
   still_shows about there = open_shows still still_open about (λ other. shown_quiet about other there) (λ m g k h b ws fit.

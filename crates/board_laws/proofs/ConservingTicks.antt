@@ -1,6 +1,5 @@
 -- Ticks are conserved, they are injected where the state is free, and other injections follow acknowledges.
-use Rattle.board_laws.proofs.Basics.{◌≡◌, ℕ, ◌+◌, ◌-◌, Bool, true, false, true≢false, not, ◌&&◌, ◌||◌, nat_eq, min, if◌then◌else◌, ◌⊎◌, inl, inr, List, [], ◌∷◌, ◌++◌, refl, sym, ap, subst, ◌∙◌, arith, Some, None, Contains, list_any, Option, nat_tests, Contains-append_left, Contains-append_right, Call, Caller, Event, Acked, Rang, Injected, Entry, TickSource, Held, Signal, Part, Shape, Status, TickState, in_mode, ticked, tick_injects, tick_injected, Board, part_of, with_part, Routing, routing_of_registry, the_reply, Plan, change, Wishes, Outcome, run, inject, tick_or_hold, ◌≢◌, run-bind, plan_on, outcome_of, with_counts, would_publish, Step, opening, next_board, Leads, board_after, board_at, board_left, OfLegalHistories, is_tick, ticks_in, acks_in, ticks_taken_by, ticks_taken, is_tick_mode, sets_mode, StartsReinjection, TicksAreConserved, HoldsBack, BusyTicksAreHeldBack, IsFreeUnlessReinjects, StateIsFreeUnlessReinjects, FallsFree, TicksInjectFree, acks_or_injects, FollowsAcknowledge, OtherInjectionsFollowAcknowledges, next_is, or_neither}
-use Rattle.board_laws.proofs.DeassignedRows.{last_answer}
+use Rattle.board_laws.proofs.Basics.{last_is_one, ◌≡◌, ℕ, ◌+◌, ◌-◌, Bool, true, false, true≢false, not, ◌&&◌, ◌||◌, nat_eq, min, if◌then◌else◌, ◌⊎◌, inl, inr, List, [], ◌∷◌, ◌++◌, refl, sym, ap, subst, ◌∙◌, arith, Some, None, Contains, list_any, Option, nat_tests, Contains-append_left, Contains-append_right, Call, Caller, Event, Acked, Rang, Injected, Entry, TickSource, Held, Signal, Part, Shape, Status, TickState, in_mode, ticked, tick_injects, tick_injected, Board, part_of, with_part, Routing, routing_of_registry, the_reply, Plan, change, Wishes, Outcome, run, inject, tick_or_hold, ◌≢◌, run-bind, plan_on, outcome_of, with_counts, would_publish, Step, opening, next_board, Leads, board_after, board_at, board_left, OfLegalHistories, is_tick, ticks_in, acks_in, ticks_taken_by, ticks_taken, is_tick_mode, sets_mode, StartsReinjection, TicksAreConserved, HoldsBack, BusyTicksAreHeldBack, IsFreeUnlessReinjects, StateIsFreeUnlessReinjects, FallsFree, TicksInjectFree, acks_or_injects, FollowsAcknowledge, OtherInjectionsFollowAcknowledges, next_is, or_neither}
 use Rattle.board_laws.proofs.Points.{split, after_both, step_at, holds_at, at_points, of_boards}
 use Rattle.board_laws.proofs.ConservingQuiet.{inject_quiet}
 use Rattle.board_laws.proofs.ConservingAcks.{Conserves, is_rang, due_after, Singly, acks_append, quiet_acks}
@@ -131,8 +130,7 @@ ticks_are_conserved shape history (last, leads) early es stretch =
 
 -- a write of the tick state, and a count of calls, change no other part
 counted_part : (t : Bool) (b : Board) (v : TickState) (q : Part) → q ≢ Part.Tick → part_of (with_counts t (with_part b Part.Tick v)) q ≡ part_of b q
-counted_part true b v Part.Tick other = absurd (other refl)
-counted_part false b v Part.Tick other = absurd (other refl)
+counted_part t b v Part.Tick other = absurd (other refl)
 counted_part true b v _ other = refl
 counted_part false b v _ other = refl
 
@@ -140,7 +138,7 @@ counted_part false b v _ other = refl
 held_back : (b : Board) (e : Entry) (c : Board) (s : Step b e c) → e.call ≡ Call.Tick → b.tick.reinjects ≡ true → tick_injects b.tick ≡ false → HoldsBack b e c
 held_back b e c s falls on never =
     record {
-      reply = last_answer [] (Held (ticked b.tick).pending) e.reply (sym (ap (λ (o : Outcome (Unit {0})). o.log.answers) is) ∙ s.replied) ∙ ap Held (ticked_more b.tick on).1;
+      reply = last_is_one [] (Held (ticked b.tick).pending) e.reply (sym (ap (λ (o : Outcome (Unit {0})). o.log.answers) is) ∙ s.replied) ∙ ap Held (ticked_more b.tick on).1;
       events = sym s.told ∙ ap (λ (o : Outcome (Unit {0})). o.log.events) is;
       tick = ap (λ (d : Board). d.tick) left ∙ counted_tick (would_publish b e.call) during;
       parts = λ q other. ap (λ (d : Board). part_of d q) left ∙ counted_part (would_publish b e.call) b (ticked b.tick) q other;

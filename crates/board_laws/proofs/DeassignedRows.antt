@@ -1,5 +1,5 @@
 -- The rows of irqfds along a history: each trigger has one row at most, and a trigger whose row went has none until one is made.
-use Rattle.board_laws.proofs.Basics.{◌≡◌, ℕ, Bool, true, false, true≢false, cond, not, ◌||◌, nat_eq, nat_lt, ◌⊎◌, inl, inr, List, [], ◌∷◌, ◌++◌, filter, refl, sym, ap, subst, ◌∙◌, arith, Some, None, find, list_any, first_so, unsigned_Decides, Option, eqb_tells, list_any-append, first_of, Call, Caller, Entry, Resample, Refusal, Busy, RoleClash, Reply, Done, Removed, Shape, Irqfd, taken, has_trigger, is_named, named_row, with_row, without_row, Board, RegistryPart, Routing, routing_of_registry, injected, Plan, done, reply, ◌>>◌, Wishes, Outcome, run, inject, range_reasons, is_trigger, is_signalled, resample_clashes, assign_reasons, attach_reasons, detach_reasons, watch_reasons, unwatch_reasons, unless_refused, source_of, inject_count, assigned, release, deassigned, number_of, io_row, plan_in_range, slice_index, is_some, no_reason, run-bind, Manner, Keeps, keeps_bind, registry_stays, let_go_keeps, inject_keeps, plan_on, outcome_of, with_counts, would_publish, Step, opening, EndsTrigger, MakesTrigger, replies_in, writes_in, refuses_in, ends, call_keeps, or_true, or_neither, or_both, none_fewer}
+use Rattle.board_laws.proofs.Basics.{last_is_one, ◌≡◌, ℕ, Bool, true, false, true≢false, cond, not, ◌||◌, nat_eq, nat_lt, ◌⊎◌, inl, inr, List, [], ◌∷◌, ◌++◌, filter, refl, sym, ap, subst, ◌∙◌, arith, Some, None, find, list_any, first_so, unsigned_Decides, Option, eqb_tells, list_any-append, first_of, Call, Caller, Entry, Resample, Refusal, Busy, RoleClash, Reply, Done, Removed, Shape, Irqfd, taken, has_trigger, is_named, named_row, with_row, without_row, Board, RegistryPart, Routing, routing_of_registry, injected, Plan, done, reply, ◌>>◌, Wishes, Outcome, run, inject, range_reasons, is_trigger, is_signalled, resample_clashes, assign_reasons, attach_reasons, detach_reasons, watch_reasons, unwatch_reasons, unless_refused, source_of, inject_count, assigned, release, deassigned, number_of, io_row, plan_in_range, slice_index, is_some, no_reason, run-bind, Manner, Keeps, keeps_bind, registry_stays, let_go_keeps, inject_keeps, plan_on, outcome_of, with_counts, would_publish, Step, opening, EndsTrigger, MakesTrigger, replies_in, writes_in, refuses_in, ends, call_keeps, or_true, or_neither, or_both, none_fewer}
 use Rattle.board_laws.proofs.ConservingAcks.{or_right}
 
 -- ---- rows
@@ -167,12 +167,6 @@ step_apart b e c s apart = subst AreApart (rows_left b e c s) (elim (rows_after 
 pub opening_apart : (shape : Shape) → AreApart (opening shape).registry.irqfds
 opening_apart shape = tt
 
--- the only answer is the last
-pub last_answer : (earlier : List Reply) (last r : Reply) → earlier ++ last ∷ [] ≡ r ∷ [] → r ≡ last
-last_answer [] last r e = cc
-last_answer (x ∷ []) last r e = cc
-last_answer (x ∷ (y ∷ ys)) last r e = cc
-
 -- a counter that is no trigger is none after a step that makes it none
 pub step_off : (trigger : ℕ) (b : Board) (e : Entry) (c : Board) → Step b e c → (MakesTrigger trigger e → ⊥) → is_trigger b.registry trigger ≡ false → is_trigger c.registry trigger ≡ false
 step_off trigger b e c s never off = subst (λ (rows : List Irqfd). list_any (has_trigger trigger) rows ≡ false) (rows_left b e c s) (elim (rows_after b e.caller s.wishes e.call) [
@@ -187,7 +181,7 @@ step_off trigger b e c s never off = subst (λ (rows : List Irqfd). list_any (ha
         gsi = makes.gsi;
         resample = makes.resample;
         call = makes.call ∙ ap (λ t. Call.Assign t makes.gsi makes.resample) same.1;
-        reply = last_answer makes.earlier Done e.reply (sym makes.answers ∙ s.replied);
+        reply = last_is_one makes.earlier Done e.reply (sym makes.answers ∙ s.replied);
       }))
       | inr other ↦ other.0
     ]

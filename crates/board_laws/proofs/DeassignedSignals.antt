@@ -1,9 +1,9 @@
 -- From the end of an irqfd to the next of its trigger, a write of its counter or a guest write that rings it signals nothing.
-use Rattle.board_laws.proofs.Basics.{◌≡◌, ◌≢◌, ℕ, zero, suc, ◌-◌, ◌<◌, Bool, true, false, true≢false, ◌||◌, ◌⊎◌, inl, inr, if◌then◌else◌, List, [], ◌∷◌, ◌++◌, refl, sym, ap, subst, ◌∙◌, arith, option_map, Some, None, find, slice_get, slice_set, Contains, list_any, Option, Contains-append_left, Contains-append_right, first_of, Call, Caller, Event, Rang, Entry, Refusal, Done, Refused, Part, Shape, Irqfd, TriggerWord, is_port, written, ticked, tick_injects, has_trigger, rung_by, Board, part_of, with_part, Routing, routing_of_registry, trigger_of, Plan, put, tell, reply, ◌>>◌, Wishes, Outcome, run, range_reasons, write_reasons, is_trigger, is_ioapic_address, is_lapic_address, unless_refused, write, pair_write, ioapic_store, lapic_store, port_out, store, ring_counter, rung, ring, number_of, does_publish, publishes_unless, would_publish, plan_on, outcome_of, with_counts, Step, opening, Leads, board_after, Space, Point, board_at, board_left, IsLegal, OfLegalHistories, rung_on, IsRefusedAlone, MakesTrigger, ChangesCountAlone, SignalsNothing, RingsAlone, SignalsNoMore, EndedSignalsNoMore, NoSignalOfDeassignedTrigger, or_neither}
+use Rattle.board_laws.proofs.Basics.{last_is_one, ◌≡◌, ◌≢◌, ℕ, zero, suc, ◌-◌, ◌<◌, Bool, true, false, true≢false, ◌||◌, ◌⊎◌, inl, inr, if◌then◌else◌, List, [], ◌∷◌, ◌++◌, refl, sym, ap, subst, ◌∙◌, arith, option_map, Some, None, find, slice_get, slice_set, Contains, list_any, Option, Contains-append_left, Contains-append_right, first_of, Call, Caller, Event, Rang, Entry, Refusal, Done, Refused, Part, Shape, Irqfd, TriggerWord, is_port, written, ticked, tick_injects, has_trigger, rung_by, Board, part_of, with_part, Routing, routing_of_registry, trigger_of, Plan, put, tell, reply, ◌>>◌, Wishes, Outcome, run, range_reasons, write_reasons, is_trigger, is_ioapic_address, is_lapic_address, unless_refused, write, pair_write, ioapic_store, lapic_store, port_out, store, ring_counter, rung, ring, number_of, does_publish, publishes_unless, would_publish, plan_on, outcome_of, with_counts, Step, opening, Leads, board_after, Space, Point, board_at, board_left, IsLegal, OfLegalHistories, rung_on, IsRefusedAlone, MakesTrigger, ChangesCountAlone, SignalsNothing, RingsAlone, SignalsNoMore, EndedSignalsNoMore, NoSignalOfDeassignedTrigger, or_neither}
 use Rattle.board_laws.proofs.Points.{split, kept, before_point, step_at, at_points}
 use Rattle.board_laws.proofs.ConservingAcks.{or_right, allows, Allowed, quiet_conserving}
 use Rattle.board_laws.proofs.ConservingCalls.{Lets, rung_quiet, call_keeps, tick_keeps}
-use Rattle.board_laws.proofs.DeassignedRows.{AreApart, last_answer, step_apart, opening_apart, step_off, ends_off}
+use Rattle.board_laws.proofs.DeassignedRows.{AreApart, step_apart, opening_apart, step_off, ends_off}
 
 -- ---- lists
 
@@ -53,12 +53,8 @@ changes_count : (counter v : ℕ) (b : Board) → ChangesCountAlone counter b (w
 changes_count counter v b = record { parts = others; counts = λ k ne. other_place b.counters counter k v ne }
   where
     others : (q : Part) → q ≢ Part.Counters → part_of (with_part b Part.Counters (slice_set b.counters counter v)) q ≡ part_of b q
-    others Part.Registry ne = refl
     others Part.Counters ne = absurd (ne refl)
-    others Part.Tick ne = refl
-    others Part.Pic ne = refl
-    others Part.Ioapic ne = refl
-    others (Part.Lapic n) ne = refl
+    others _ ne = refl
 
 changes_counted : (counter : ℕ) (t : Bool) (b o : Board) → ChangesCountAlone counter b o → ChangesCountAlone counter b (with_counts t o)
 changes_counted counter t b o h = record { parts = λ q ne. same t q ∙ h.parts q ne; counts = λ k ne. ap (λ counts. slice_get counts k) (same t Part.Counters) ∙ h.counts k ne }
@@ -208,8 +204,8 @@ signals_nothing counter b e c s h = (
   sym s.told ∙ h.told,
   record {
     reply = elim h.answers [
-      | inl done ↦ inl (last_answer [] Done e.reply (sym done ∙ s.replied))
-      | inr refused ↦ inr (refused.0, last_answer [] (Refused refused.0) e.reply (sym refused.1 ∙ s.replied))
+      | inl done ↦ inl (last_is_one [] Done e.reply (sym done ∙ s.replied))
+      | inr refused ↦ inr (refused.0, last_is_one [] (Refused refused.0) e.reply (sym refused.1 ∙ s.replied))
     ];
     changes = subst (λ (d : Board). ChangesCountAlone counter b d) s.leads (changes_counted counter (would_publish b e.call) b (outcome_of b e s.wishes).board h.changes);
   },
@@ -228,14 +224,14 @@ module _ (counter : ℕ) (b : Board) (e : Entry) (c : Board) (s : Step b e c) wh
   pub refused_alone : rung_on b e.call ≡ Some counter → Refuses b (outcome_of b e s.wishes) → IsRefusedAlone b e c
   refused_alone rings h = record {
     refusal = h.refusal;
-    reply = last_answer [] (Refused h.refusal) e.reply (sym h.answers ∙ s.replied);
+    reply = last_is_one [] (Refused h.refusal) e.reply (sym h.answers ∙ s.replied);
     events = sym s.told ∙ h.told;
     board = sym s.leads ∙ ap (λ t. with_counts t (outcome_of b e s.wishes).board) (rings_no_words counter b e.call rings) ∙ ap (with_counts false) h.same;
   }
 
   rings_alone : Rings counter b (outcome_of b e s.wishes) → RingsAlone counter b e c
   rings_alone h = record {
-    reply = last_answer [] Done e.reply (sym h.answers ∙ s.replied);
+    reply = last_is_one [] Done e.reply (sym h.answers ∙ s.replied);
     events = sym s.told ∙ h.told;
     changes = subst (λ (d : Board). ChangesCountAlone counter b d) s.leads (changes_counted counter (would_publish b e.call) b (outcome_of b e s.wishes).board h.changes);
   }

@@ -70,9 +70,7 @@ module _ (b : Board) (stand : HasProcessors b b.shape.cpus) where
   -- a signal that is lowered
   lowered_says : (pic ioapic : Option ℕ) (msi : Option MsiWord) → is_without_effect (lowered_status pic ioapic msi) ≡ true → IsSaidOf b (record { pic = pic; ioapic = ioapic; msi = msi }) (lowered_status pic ioapic msi)
   lowered_says None None None quiet = record { pic = refl; other = refl; first = refl; unrouted = (λ _. record { pic = refl; ioapic = refl; msi = refl }, λ _. refl) }
-  lowered_says None None (Some word) quiet = absurd (true≢false (sym quiet))
-  lowered_says None (Some pin) msi quiet = absurd (true≢false (sym quiet))
-  lowered_says (Some pin) ioapic msi quiet = absurd (true≢false (sym quiet))
+  lowered_says _ _ _ quiet = absurd (true≢false (sym quiet))
 
   lower_says : (targets : Targets) (source : Source) (ws : Wishes) → Says b targets (run (lower targets source) b ws)
   lower_says targets source ws =

@@ -25,10 +25,8 @@ replies r plain b ws fit = ap (λ t. if t then true else false) plain
 
 -- a status may show in an event
 shows : {cpus : ℕ} (about : About) → in_reply about ≡ false → Shows mute cpus about
-shows (injected gsi pic) e = open_shows mute is_open (injected gsi pic) (λ other b ws fit. refl) (λ m g k h b ws fit. h (g (next_wish ws)) b (later_wishes ws) tt)
-shows (resent pin) e = open_shows mute is_open (resent pin) (λ other b ws fit. refl) (λ m g k h b ws fit. h (g (next_wish ws)) b (later_wishes ws) tt)
-shows ipi e = open_shows mute is_open ipi (λ other b ws fit. refl) (λ m g k h b ws fit. h (g (next_wish ws)) b (later_wishes ws) tt)
 shows (the_reply pic) e = absurd (true≢false e)
+shows about e = open_shows mute is_open about (λ other b ws fit. refl) (λ m g k h b ws fit. h (g (next_wish ws)) b (later_wishes ws) tt)
 
 module _ (routing : Routing) (shape : Shape) where
 

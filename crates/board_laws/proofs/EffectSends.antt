@@ -6,12 +6,8 @@ use Rattle.board_laws.proofs.EffectStood.{has_stood, pin_stood, ignored_for}
 
 -- a value of a part with the requests that the board has there
 abbrev pub HasRequests : Board → (p : Part) → ValueOf p → Type 0
-HasRequests b Registry v = Unit {0}
-HasRequests b Counters v = Unit {0}
-HasRequests b Tick v = Unit {0}
-HasRequests b Pic v = Unit {0}
-HasRequests b Ioapic v = Unit {0}
 HasRequests b (Lapic n) v = v.irr ≡ (part_of b (Lapic n)).irr
+HasRequests b _ v = Unit {0}
 
 module _ (b : Board) where
   -- where one is written, whether it is there or not, its requests are those of the board
@@ -100,16 +96,10 @@ module _ (b : Board) (targets : Targets) where
 
   pub said_of : (pic other : Option TargetAnswer) (sent : Sent) → pic ≡ pic_answer_on b targets.pic → OtherSays other sent.stood → is_without_effect (status_of pic other sent) ≡ true → IsSaidOf b targets (status_of pic other sent)
   said_of (Some newly_taken) other sent is says quiet = absurd (true≢false (sym quiet))
-  said_of (Some stood_already) None sent is says quiet = inl (pic_stood targets.pic refl is)
-  said_of (Some stood_already) (Some stood_already) sent is says quiet = inl (pic_stood targets.pic refl is)
-  said_of (Some stood_already) (Some (no_effect cause)) sent is says quiet = inl (pic_stood targets.pic refl is)
-  said_of None (Some stood_already) sent is says quiet = inr says
-  said_of (Some (no_effect cause)) (Some stood_already) sent is says quiet = inr says
-  said_of None None sent is says quiet = ignored_for b targets None None is says refl refl
-  said_of None (Some (no_effect cause)) sent is says quiet = ignored_for b targets None (Some (no_effect cause)) is says refl refl
-  said_of (Some (no_effect cause)) None sent is says quiet = ignored_for b targets (Some (no_effect cause)) None is says refl refl
-  said_of (Some (no_effect cause)) (Some (no_effect other)) sent is says quiet = ignored_for b targets (Some (no_effect cause)) (Some (no_effect other)) is says refl refl
   said_of _ (Some newly_taken) sent is says quiet = absurd (true≢false (sym quiet))
+  said_of (Some stood_already) other sent is says quiet = inl (pic_stood targets.pic refl is)
+  said_of pic (Some stood_already) sent is says quiet = inr says
+  said_of pic other sent is says quiet = ignored_for b targets pic other is says refl refl
 
 -- ---- what a local APIC keeps of its requests
 

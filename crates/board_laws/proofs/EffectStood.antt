@@ -172,7 +172,5 @@ module _ (b : Board) (targets : Targets) where
           let (pin, there, masked, never) = pic_answers is_unrouted b refl refl refl targets.pic (sym (ap (answers_cause is_unrouted) is) ∙ h) in cc
       none None (Some (no_effect cause)) is says no_pic no_other h =
           let (pin, there, masked, never) = other_answers is_unrouted b refl refl refl targets.ioapic targets.msi (sym (ap (answers_cause is_unrouted) says) ∙ h) in cc
-      none (Some newly_taken) other is says no_pic no_other h = absurd (true≢false (sym no_pic))
-      none (Some stood_already) other is says no_pic no_other h = absurd (true≢false (sym no_pic))
-      none None (Some newly_taken) is says no_pic no_other h = absurd (true≢false (sym no_other))
-      none None (Some stood_already) is says no_pic no_other h = absurd (true≢false (sym no_other))
+      none None _ is says no_pic no_other h = absurd (true≢false (sym no_other))
+      none _ other is says no_pic no_other h = absurd (true≢false (sym no_pic))

@@ -49,10 +49,8 @@ as_seen b (n ∷ ns) = (refl, as_seen b ns)
 
 module _ (cpus : ℕ) where
   show_safe : (about : About) (other : Option TargetAnswer) → Safe cpus (show about other)
-  show_safe (injected gsi pic) other = λ b ws fine. quiet cpus b.lapics fine
-  show_safe (resent pin) other = λ b ws fine. quiet cpus b.lapics fine
-  show_safe ipi other = λ b ws fine. quiet cpus b.lapics fine
   show_safe (the_reply pic) other = λ b ws fine. quiet cpus b.lapics fine
+  show_safe _ other = λ b ws fine. quiet cpus b.lapics fine
 
   ignore_safe : (about : About) (cause : Cause) → Safe cpus (ignore about cause)
   ignore_safe about cause = ignored (safe cpus) about (show_safe about) cause

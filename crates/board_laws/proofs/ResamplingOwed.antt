@@ -1,5 +1,5 @@
 -- What an acknowledge leaves: each resample counter of its GSI is told at once, and no other; and Resample lets its pins go.
-use Rattle.board_laws.proofs.Basics.{Walk, Holds as HoldsOf, of_relation, ended, after, let_go_holds, resend_holds, end_tick_holds, Accesses, ◌≡◌, ℕ, Bool, true, false, not, ◌&&◌, ◌||◌, nat_eq, cond, filter, if◌then◌else◌, List, [], ◌∷◌, ◌++◌, map, Some, None, refl, sym, ap, subst, ◌∙◌, append_assoc, append-nil, filter_map, is_some, Option, cons_option, Event, Acked, Resampled, Watched, Pin, Resample, Targets, Shape, signalled_all, Irqfd, Watch, has_resampler, resample_of, resampled, resample_events, has_watch, watched, watch_events, targets_of, RegistryPart, Routing, routing_of_registry, Board, with_part, resent, Plan, done, tell, ◌>>◌, ipi, reply, Wishes, Outcome, then_run, run, send, let_go, resend, signal_each, resample, notify, resample_and_notify, tell_concerned, end_level, end_tick, acknowledge, acknowledge_each, run-bind, Part, signal_told, signals_told, signal_owed, signals_owed, counters_told}
+use Rattle.board_laws.proofs.Basics.{or_neither, Walk, Holds as HoldsOf, of_relation, ended, after, let_go_holds, resend_holds, end_tick_holds, Accesses, ◌≡◌, ℕ, Bool, true, false, not, ◌&&◌, ◌||◌, nat_eq, cond, filter, if◌then◌else◌, List, [], ◌∷◌, ◌++◌, map, Some, None, refl, sym, ap, subst, ◌∙◌, append_assoc, append-nil, filter_map, is_some, Option, cons_option, Event, Acked, Resampled, Watched, Pin, Resample, Targets, Shape, signalled_all, Irqfd, Watch, has_resampler, resample_of, resampled, resample_events, has_watch, watched, watch_events, targets_of, RegistryPart, Routing, routing_of_registry, Board, with_part, resent, Plan, done, tell, ◌>>◌, ipi, reply, Wishes, Outcome, then_run, run, send, let_go, resend, signal_each, resample, notify, resample_and_notify, tell_concerned, end_level, end_tick, acknowledge, acknowledge_each, run-bind, Part, signal_told, signals_told, signal_owed, signals_owed, counters_told}
 use Rattle.board_laws.proofs.ResamplingPlans.{AreQuiet, no_more, Stays, same, left, shows_left, left_signals, left_ends}
 use Rattle.board_laws.proofs.ResamplingAcks.{has_it, same_number, Resamples, Does, Acks, then_does, acks_quietly, resamples_later, Said, said, resamples_tell, watches_tell, signal_acks, LetsGo, lets_go}
 
@@ -23,14 +23,6 @@ no_watch (x ∷ xs) gsi none =
       | true ↦ λ never. cc
       | false ↦ λ rest. no_watch xs gsi rest
     ] none
-
-first_off : (a b : Bool) → (a || b) ≡ false → a ≡ false
-first_off true b e = e
-first_off false b e = refl
-
-second_off : (a b : Bool) → (a || b) ≡ false → b ≡ false
-second_off true b e = cc
-second_off false b e = e
 
 module _ (r : RegistryPart) where
   told_split : (xs ys : List Event) → signals_told (xs ++ ys) ≡ signals_told xs ++ signals_told ys
@@ -208,7 +200,7 @@ module _ (r : RegistryPart) where
     concern_tells gsi b ws is =
         elim (routing.marked gsi) as (λ t. routing.marked gsi ≡ t → (run (if t then resample_and_notify routing gsi else done tt) b ws).log.events ≡ resample_events r.irqfds gsi ++ watch_events r.watches gsi) [
           | true ↦ λ _. both_tell gsi b ws is
-          | false ↦ λ off. λ i. map Resampled (sym (no_resampler r.irqfds gsi (first_off (has_resampler r.irqfds gsi) _ off)) i) ++ map Watched (sym (no_watch r.watches gsi (first_off (has_watch r.watches gsi) _ (second_off (has_resampler r.irqfds gsi) _ off))) i)
+          | false ↦ λ off. λ i. map Resampled (sym (no_resampler r.irqfds gsi (or_neither (has_resampler r.irqfds gsi) _ off).0) i) ++ map Watched (sym (no_watch r.watches gsi (or_neither (has_watch r.watches gsi) _ (or_neither (has_resampler r.irqfds gsi) _ off).1).0) i)
         ] refl
 
     all_told : (gsi : ℕ) (rest : Plan (Unit {0})) → HoldsOf (left r) rest → (b : Board) (ws : Wishes) → b.registry ≡ r →

@@ -53,10 +53,8 @@ all_quiet [] ys h k = k
 all_quiet (x ∷ xs) ys h k = (h.0, all_quiet xs ys h.1 k)
 
 quiet_sending : (about : About) (s : Sent) (events : List Event) → AreQuiet events → AreQuiet (events_of about s ++ events)
-quiet_sending (injected gsi pic) s events quiet = (refl, quiet)
-quiet_sending (resent pin) s events quiet = (refl, quiet)
-quiet_sending ipi s events quiet = (refl, quiet)
 quiet_sending (the_reply pic) s events quiet = quiet
+quiet_sending _ s events quiet = (refl, quiet)
 
 -- that the events are quiet, whatever is written
 abbrev pub quiet : Walk
@@ -66,10 +64,8 @@ pub quiet_open : Open quiet
 quiet_open = record { counters = λ v b fit. tt; pic = λ v b fit. tt; ioapic = λ v b fit. tt; lapic = λ n v b fit. tt }
 
 quiet_shown : (about : About) (other : Option TargetAnswer) → HoldsOf quiet (show about other)
-quiet_shown (injected gsi pic) other = λ b ws fit. (refl, tt)
-quiet_shown (resent pin) other = λ b ws fit. (refl, tt)
-quiet_shown ipi other = λ b ws fit. (refl, tt)
 quiet_shown (the_reply pic) other = λ b ws fit. tt
+quiet_shown _ other = λ b ws fit. (refl, tt)
 
 pub quiet_shows : {cpus : ℕ} (about : About) → Shows quiet cpus about
 quiet_shows about = open_shows quiet quiet_open about (quiet_shown about) (λ m g k h b ws fit. let s = g (next_wish ws) in quiet_sending about s (run (k s) b (later_wishes ws)).log.events (h s b (later_wishes ws) tt))
@@ -119,10 +115,8 @@ module _ (r : RegistryPart) where
   })
 
   shown_left : (about : About) (other : Option TargetAnswer) → HoldsOf left (show about other)
-  shown_left (injected gsi pic) other = λ b ws fit. record { stays = same refl refl refl refl fit; quiet = (refl, tt) }
-  shown_left (resent pin) other = λ b ws fit. record { stays = same refl refl refl refl fit; quiet = (refl, tt) }
-  shown_left ipi other = λ b ws fit. record { stays = same refl refl refl refl fit; quiet = (refl, tt) }
   shown_left (the_reply pic) other = λ b ws fit. record { stays = same refl refl refl refl fit; quiet = tt }
+  shown_left _ other = λ b ws fit. record { stays = same refl refl refl refl fit; quiet = (refl, tt) }
 
   pub shows_left : {cpus : ℕ} (about : About) → Shows left cpus about
   shows_left about = shows_by left (λ n apic message seen b fit. same refl refl refl refl fit) about (shown_left about) (λ m g k h b ws fit.

@@ -23,7 +23,7 @@ first_reply [] = Nothing
 first_reply (r ∷ rs) = r
 
 -- the last of one reply
-last_is_one : (rs : List Reply) (q r : Reply) → rs ++ q ∷ [] ≡ r ∷ [] → r ≡ q
+pub last_is_one : (rs : List Reply) (q r : Reply) → rs ++ q ∷ [] ≡ r ∷ [] → r ≡ q
 last_is_one [] q r is = sym (ap first_reply is)
 last_is_one (p ∷ []) q r is = cc
 last_is_one (p ∷ o ∷ rs) q r is = cc

@@ -38,20 +38,17 @@ less_service a (Some vector) = refl
 
 -- where a store ends a vector, the same messages name the local APIC after it
 abbrev HearsAfter : LocalApic → LapicEffect → LocalApic → Type 0
-HearsAfter a LapicEffect.Plain after = Unit {0}
 HearsAfter a (LapicEffect.Ended vector) after = heard_of after ≡ heard_of a
-HearsAfter a (LapicEffect.Send message) after = Unit {0}
+HearsAfter a _ after = Unit {0}
 
 -- a store that ends no vector
 abbrev ends_none : LapicEffect → Bool
-ends_none LapicEffect.Plain = true
 ends_none (LapicEffect.Ended vector) = false
-ends_none (LapicEffect.Send message) = true
+ends_none _ = true
 
 hears_anyhow : (a : LocalApic) (effect : LapicEffect) (after : LocalApic) → ends_none effect ≡ true → HearsAfter a effect after
-hears_anyhow a LapicEffect.Plain after none = tt
 hears_anyhow a (LapicEffect.Ended vector) after none = absurd (true≢false (sym none))
-hears_anyhow a (LapicEffect.Send message) after none = tt
+hears_anyhow a _ after none = tt
 
 -- of all registers the EOI register alone, the fifth, ends a vector
 hears_after : (a : LocalApic) (offset value : ℕ) → HearsAfter a (store_effect a offset value) (store_to a offset value)

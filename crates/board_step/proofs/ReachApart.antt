@@ -98,10 +98,8 @@ module _ (pin : ℕ) where
   nothing = λ b ws. leaves_itself b
 
   shown : (about : About) (answer : Option TargetAnswer) → Leaves (show about answer)
-  shown (injected gsi pic) answer = λ b ws. leaves_itself b
-  shown (resent at) answer = λ b ws. leaves_itself b
-  shown ipi answer = λ b ws. leaves_itself b
   shown (the_reply pic) answer = λ b ws. leaves_itself b
+  shown _ answer = λ b ws. leaves_itself b
 
   answered : (about : About) (answer : Option TargetAnswer) → Leaves (answer_shown about answer)
   answered about answer = bound (λ _. done answer) (show about answer) (shown about answer) (λ _. ended answer)

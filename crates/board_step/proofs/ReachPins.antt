@@ -79,8 +79,7 @@ gone_holds : (pic ioapic : Option ℕ) (msi : Option MsiWord) (b : Board) (ws : 
     → Holds b (run (let_go (record { pic = pic; ioapic = ioapic; msi = msi }) Resample) b ws).board (pin_freed b.ioapic ioapic)
 gone_holds None None msi b ws = record { registry = refl; tick = refl; ioapic = refl }
 gone_holds (Some p) None msi b ws = record { registry = refl; tick = refl; ioapic = refl }
-gone_holds None (Some p) msi b ws = record { registry = refl; tick = refl; ioapic = refl }
-gone_holds (Some m) (Some p) msi b ws = record { registry = refl; tick = refl; ioapic = refl }
+gone_holds _ _ msi b ws = record { registry = refl; tick = refl; ioapic = refl }
 
 module _ (routing : Routing) (shape : Shape) where
   resampled_holds : (gsi : ℕ) (b : Board) (ws : Wishes) → Holds b (run (resample (routing.targets gsi) gsi b.registry) b ws).board (part_freed routing shape b (Some gsi))

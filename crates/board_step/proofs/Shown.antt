@@ -70,15 +70,12 @@ module _ (w : Manner) where
 
     sent_events : w.replies ≡ false → (about : About) → shows_there w about ≡ true → InEvents l → InEvents (sending m about s l)
     sent_events there (injected gsi pic) place r = record { events = first pic (wishes_told l.events) (shown_wishes l.sendings) r.events; answers = r.answers }
-    sent_events there (resent pin) place r = record { events = first None (wishes_told l.events) (shown_wishes l.sendings) r.events; answers = r.answers }
-    sent_events there ipi place r = record { events = first None (wishes_told l.events) (shown_wishes l.sendings) r.events; answers = r.answers }
     sent_events there (the_reply pic) place r = absurd (true≢false (sym place ∙ ap (λ t. if t then true else false) there))
+    sent_events there _ place r = record { events = first None (wishes_told l.events) (shown_wishes l.sendings) r.events; answers = r.answers }
 
     sent_replies : w.replies ≡ true → (about : About) → shows_there w about ≡ true → InReplies l → InReplies (sending m about s l)
-    sent_replies there (injected gsi pic) place r = absurd (true≢false (sym place ∙ ap (λ t. if t then false else true) there))
-    sent_replies there (resent pin) place r = absurd (true≢false (sym place ∙ ap (λ t. if t then false else true) there))
-    sent_replies there ipi place r = absurd (true≢false (sym place ∙ ap (λ t. if t then false else true) there))
     sent_replies there (the_reply pic) place r = record { events = r.events; answers = first pic (wishes_replied l.answers) (shown_wishes l.sendings) r.answers }
+    sent_replies there _ place r = absurd (true≢false (sym place ∙ ap (λ t. if t then false else true) there))
 
   -- ---- a plan
 

@@ -17,9 +17,8 @@ freed holds (Some pin) = remove holds (hold pin Resample)
 pub freed_run : (pic ioapic : Option ℕ) (b : Board) (ws : Wishes) →
     (run ((let_go_pic pic Resample >> let_go_ioapic ioapic Resample) >> reply (Removed 1)) b ws).board ≡ record b { pic = record b.pic { holds = freed b.pic.holds pic }; ioapic = record b.ioapic { holds = freed b.ioapic.holds ioapic } }
 freed_run None None b ws = refl
-freed_run None (Some i) b ws = refl
 freed_run (Some p) None b ws = refl
-freed_run (Some p) (Some i) b ws = refl
+freed_run _ _ b ws = refl
 
 freed_held : (holds : Holds) (pin : Option ℕ) (h : Hold) → IsTrue (contains (freed holds pin) h) → IsTrue (contains holds h)
 freed_held holds None h held = held

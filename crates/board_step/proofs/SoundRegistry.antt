@@ -103,8 +103,8 @@ route_pic (Some n) ioapic (Some m) pin e route = absurd (true≢false (sym route
 route_ioapic : (pic ioapic : Option ℕ) (msi : Option MsiWord) (pin : ℕ) → ioapic ≡ Some pin → is_route_of pic ioapic msi ≡ true → pin < 24
 route_ioapic pic None msi pin e route = cc
 route_ioapic pic (Some n) None pin e route = let same : n ≡ pin = cc in subst (λ k. k < 24) same (ltb-true n 24 (second_so (is_below pic 16) _ route))
-route_ioapic None (Some n) (Some m) pin e route = absurd (true≢false (sym route))
-route_ioapic (Some k) (Some n) (Some m) pin e route = absurd (true≢false (sym route))
+route_ioapic None _ _ pin e route = absurd (true≢false (sym route))
+route_ioapic _ _ _ pin e route = absurd (true≢false (sym route))
 
 -- a table is that of rows that keep the rules
 abbrev pub IsMade : Table → Type 0

@@ -1,5 +1,6 @@
 -- Calls: what holds of their parts holds of them.
-use Rattle.board_step.proofs.Basics.{◌≡◌, ℕ, ◌-◌, Bool, true, false, nat_eq, nat_lt, if◌then◌else◌, List, ◌++◌, ◌∷◌, [], Some, None, refl, Option, greatest_vector, Reason, first_of, Call, Space, Rang, Pin, Row, Line, Resample, Message, Refusal, Shorthand, Reply, Signal, Done, Count, Empty, Removed, Value, Exit, Vector, Extint, Nmi, Ended, Nothing, Held, Refused, Registry, Counters, Tick, Pic, Ioapic, Lapic, Shape, Irqfd, IoRow, Pair, LapicEffect, signalled, TickState, TriggerWord, is_port, pair_write_to, pair_read_from, has_output, cycle, write_to, resend_of, store_to, store_effect, giveable_of, given, without_service, message_in, what_is_read, taken, written as count_of, rung_by, in_mode, table_of, Holds as PinHolds, Board, part_of, with_part, RegistryPart, Routing, PicPart, IoapicPart, pair_of, ioapic_of, with_pair, with_ioapic, TargetAnswer, injected, ipi, the_reply, Plan, done, put, say, change, reply, ◌>>◌, Wishes, send, raise, lowered_status, inject_tick, resend, acknowledge_each, write_reasons, assign_reasons, attach_reasons, detach_reasons, watch_reasons, unwatch_reasons, is_ioapic_address, is_lapic_address, unless_refused, line_set, message_sent, source_of, trigger_written, write, read_reply, take, inject_count, assign, was_last_resampler, release, deassigned, deassign, kept_holds, reroute, attach, detach, watch, unwatch, tick_or_hold, pins_with, end_vector, ended_reply, end_of_interrupt, pic_pin, cycle_pins, cycle_made, inta, given_reply, give, hears_pair, give_of_pair, take_nmi, next_interrupt, pair_written, pair_write, pair_gave, pair_read, resend_written, ioapic_written, ioapic_store, ioapic_load, store_effects, lapic_stored, lapic_store, lapic_load, ring_counter, rung, ring, port_out, port_in, store, load, plan_in_range, slice_index, is_some, read_from, load_of, count_written, tick_mode, named_row, with_row, without_row, without_ioevent, with_watch, without_watch}
+use Rattle.board_step.proofs.Basics.{not, ◌≡◌, ℕ, ◌-◌, Bool, true, false, nat_eq, nat_lt, if◌then◌else◌, List, ◌++◌, ◌∷◌, [], Some, None, refl, Option, greatest_vector, Reason, first_of, Call, Space, Rang, Pin, Row, Line, Resample, Message, Refusal, Shorthand, Reply, Signal, Done, Count, Empty, Removed, Value, Exit, Vector, Extint, Nmi, Ended, Nothing, Held, Refused, Registry, Counters, Tick, Pic, Ioapic, Lapic, Shape, Irqfd, IoRow, Pair, LapicEffect, signalled, TickState, TriggerWord, is_port, pair_write_to, pair_read_from, has_output, cycle, write_to, resend_of, store_to, store_effect, giveable_of, given, without_service, message_in, what_is_read, taken, written as count_of, rung_by, in_mode, table_of, Holds as PinHolds, Board, part_of, with_part, RegistryPart, Routing, PicPart, IoapicPart, pair_of, ioapic_of, with_pair, with_ioapic, TargetAnswer, injected, ipi, the_reply, Plan, done, put, say, change, reply, ◌>>◌, Wishes, send, raise, lowered_status, inject_tick, resend, acknowledge_each, write_reasons, assign_reasons, attach_reasons, detach_reasons, watch_reasons, unwatch_reasons, is_ioapic_address, is_lapic_address, unless_refused, line_set, message_sent, source_of, trigger_written, write, read_reply, take, inject_count, assign, was_last_resampler, release, deassigned, deassign, kept_holds, reroute, attach, detach, watch, unwatch, tick_or_hold, pins_with, end_vector, ended_reply, end_of_interrupt, pic_pin, cycle_pins, cycle_made, inta, given_reply, give, hears_pair, give_of_pair, take_nmi, next_interrupt, pair_written, pair_write, pair_gave, pair_read, resend_written, ioapic_written, ioapic_store, ioapic_load, store_effects, lapic_stored, lapic_store, lapic_load, ring_counter, rung, ring, port_out, port_in, store, load, plan_in_range, slice_index, is_some, read_from, load_of, count_written, tick_mode, named_row, with_row, without_row, without_ioevent, with_watch, without_watch}
+use Rattle.board_step.proofs.CallRules.{writes_in}
 use Rattle.board_step.proofs.Walk.{Walk, Holds, ended, bound, after, either, either_at, looked, written, changed}
 use Rattle.board_step.proofs.WalkSignals.{Shows, Signals, MayRaise, let_go_holds, lower_holds, raise_holds, inject_only}
 
@@ -10,19 +11,8 @@ is_signal _ = false
 
 -- the calls that leave the registry, but for a tick that falls
 abbrev pub is_plain : Call → Bool
-is_plain (Call.Line gsi line high) = true
-is_plain (Call.Msi address payload) = true
-is_plain (Call.Write counter count) = true
-is_plain (Call.Take counter) = true
-is_plain (Call.TickMode reinject) = true
-is_plain (Call.PortOut port len value) = true
-is_plain (Call.PortIn port len) = true
-is_plain (Call.Store address len value) = true
-is_plain (Call.Load address len) = true
-is_plain Call.Ack = true
-is_plain Call.Inta = true
-is_plain Call.Eoi = true
-is_plain _ = false
+is_plain Call.Tick = false
+is_plain call = not (writes_in call)
 
 module _ (w : Walk) (routing : Routing) (shape : Shape) where
   -- ---- processors and accesses

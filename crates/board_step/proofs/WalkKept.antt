@@ -25,10 +25,8 @@ module _ (P : Board → Type 0) where
     shows about = shows_by walk k.accepts about (of_about about) (λ m g next h b ws fit. h (g (next_wish ws)) b (later_wishes ws) fit)
       where
         of_about : (about : About) (other : Option TargetAnswer) → Holds walk (show about other)
-        of_about (injected gsi pic) other = λ b ws fit. fit
-        of_about (resent pin) other = λ b ws fit. fit
-        of_about ipi other = λ b ws fit. fit
         of_about (the_reply pic) other = λ b ws fit. fit
+        of_about _ other = λ b ws fit. fit
 
   module _ (routing : Routing) (shape : Shape) where
     -- the writes of calls keep it

@@ -97,7 +97,7 @@ module _ (w : Walk) where
     pub lower_holds : (targets : Targets) (source : Source) → Holds w (reply (Signal (lowered_status targets.pic targets.ioapic targets.msi))) → Holds w (lower targets source)
     lower_holds targets source answers = after w (let_go targets source) (reply (Signal (lowered_status targets.pic targets.ioapic targets.msi))) (let_go_holds targets source) answers
 
-    let_go_after_holds : (targets : Targets) (source : Source) → Holds w (let_go_after targets source)
+    pub let_go_after_holds : (targets : Targets) (source : Source) → Holds w (let_go_after targets source)
     let_go_after_holds targets Resample = ended w tt
     let_go_after_holds targets other = let_go_holds targets other
 
@@ -112,7 +112,7 @@ module _ (w : Walk) where
         (λ answer. after w (accept_pin pin (is_accepted message answer)) (done (Some answer)) (accept_pin_holds pin (is_accepted message answer)) (ended w (Some answer)))
 
     module _ (targets : Targets) (source : Source) (may : MayRaise targets source) where
-      raise_pic_holds : (pin : Option ℕ) → targets.pic ≡ pin → Holds w (raise_pic pin source)
+      pub raise_pic_holds : (pin : Option ℕ) → targets.pic ≡ pin → Holds w (raise_pic pin source)
       raise_pic_holds None is = ended w None
       raise_pic_holds (Some pin) is = written w Pic (λ pic. pic_raised pic pin source) (λ pic. done (Some (pic_answer (pin_outcome (pair_of pic) pin true)))) (may.pic pin is)
           (λ pic. ended w (Some (pic_answer (pin_outcome (pair_of pic) pin true))))
