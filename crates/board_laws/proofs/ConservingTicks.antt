@@ -261,8 +261,7 @@ module _ (tick : ℕ) where
   comes due [] after gsi status never h = let both = split due h.0 in (both.1, inl (both.0, refl))
     where
       split : (due : Bool) → (due && nat_eq gsi tick) ≡ true → (due ≡ true) × (gsi ≡ tick)
-      split true h = (refl, grind (arith, nat_tests))
-      split false h = absurd (true≢false (sym h))
+      split due h1 = grind arith
   comes due (x ∷ before) after gsi status never h =
       let later = comes (due_after tick due x) before after gsi status (λ counter rang. never counter (Contains-append_right (x ∷ []) (before ++ Injected gsi status ∷ after) (Rang counter) rang)) (h.1 (head_rings x (before ++ Injected gsi status ∷ after) never)) in
       (later.0, comes_later due x before later.1)

@@ -108,10 +108,7 @@ insert_there : (s : Numbers) (k : ℕ) → contains s k ≡ true → insert s k 
 insert_there s k there = same_set nat_cmp_total nat_cmp-IsAntisymmetric _ _ (λ q. contains-insert_number s k q ∙ at q)
   where
     at : (q : ℕ) → (nat_eq q k || contains s q) ≡ contains s q
-    at q = elim (nat_eq q k) as (λ t. nat_eq q k ≡ t → (t || contains s q) ≡ contains s q) [
-      | true ↦ λ is. let e : q ≡ k = grind (is, arith) in sym (ap (contains s) e ∙ there)
-      | false ↦ λ _. refl
-    ] refl
+    at q = grind arith
 
 by_tests : (a : LocalApic) (m : Message) (nmi enabled low : Bool) → (if nmi then a.nmi else contains a.irr m.vector) ≡ true
     → (if nmi then record a { nmi = true } else if not enabled then a else if low then with_error a 6 else with_request a m).irr ≡ a.irr
@@ -205,11 +202,7 @@ module _ (b : Board) (stand : HasProcessors b b.shape.cpus) (targets : Targets) 
 
           -- where nobody newly took it, each one that it reached had the request
           had : is_empty is.sent.new ≡ true → (k : ℕ) → contains s k ≡ true → has_request_on b message k ≡ true
-          had none k reached = of_test (has_request_on b message k) refl
-            where
-              of_test : (t : Bool) → has_request_on b message k ≡ t → t ≡ true
-              of_test true e = refl
-              of_test false e = absurd (true≢false (sym (ap (λ t. t && not (has_request_on b message k)) reached ∙ ap not e) ∙ sym (is.new k) ∙ no_member is.sent.new k none))
+          had h1 k h2 = grind arith
 
           requests : is_empty is.sent.new ≡ true → SameRequests b o.board
           requests none n = ap (λ (a : LocalApic). a.irr) (is.after n) ∙ (elim (contains s n) as (λ t. contains s n ≡ t → (if t then accepted (part_of b (Lapic n)) message else part_of b (Lapic n)).irr ≡ (part_of b (Lapic n)).irr) [
