@@ -38,9 +38,6 @@ module _ (words : List ℕ) (shape : Shape) (caller : Caller) (call : Call) wher
 
 -- ---- parts that fit
 
-wider : (o : Option TickState) → IfSome o (λ tick. tick.pending ≤ 2 ^ 40) → IfSome o (λ tick. tick.pending ≤ 2 ^ 40 + 1)
-wider o h1 = grind arith
-
 pub fits_but : (shape : Shape) (p : code.Parts) → FitsShape shape p → FitsButTick shape p
 fits_but shape p fits = record {
   others = record {
@@ -51,7 +48,7 @@ fits_but shape p fits = record {
     lapics = record { places = fits.lapics.places; numbers = fits.lapics.numbers };
     pins = record { pic = fits.pins.pic; ioapic = fits.pins.ioapic };
   };
-  pending = wider p.tick fits.tick;
+  pending = (grind (arith, fits.tick));
 }
 
 -- ---- whether a call is a publication
@@ -63,10 +60,7 @@ first_of_both (r ∷ rs) more = elim r.0 as (λ t. (if t then Some r.1 else firs
 
 -- it is neither refused for its arguments nor for what stands, and it is of the kind
 pub publishes_where : (b : Board) (call : Call) → would_publish b call ≡ (not (is_some (first_of (range_reasons b.shape call))) && (not (is_some (first_of (later_reasons b call))) && does_publish b call))
-publishes_where b call = ap (λ r. publishes_unless r b call) (first_of_both (range_reasons b.shape call) (later_reasons b call)) ∙ by (first_of (range_reasons b.shape call)) (first_of (later_reasons b call))
-  where
-    by : (r s : Option Refusal) → publishes_unless (option_or r s) b call ≡ (not (is_some r) && (not (is_some s) && does_publish b call))
-    by r s = grind arith
+publishes_where b call = ap (λ r. publishes_unless r b call) (first_of_both (range_reasons b.shape call) (later_reasons b call)) ∙ (grind arith)
 
 -- some row is so exactly where the first such is found
 pub named_found : (rows : List Irqfd) (trigger gsi : ℕ) → is_some (named_row rows trigger gsi) ≡ list_any (is_named trigger gsi) rows

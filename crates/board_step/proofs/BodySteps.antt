@@ -9,10 +9,6 @@ one_reply [] one = cc
 one_reply (r ∷ []) one = (r, refl)
 one_reply (r ∷ s ∷ rs) one = absurd (omega (arith, one))
 
--- to count a call changes no part
-counted_all : (t : Bool) (b : Board) → all_parts (with_counts t b) ≡ all_parts b
-counted_all t b = grind arith
-
 -- the plan by the words is that of the board
 same_plan : (words : List _) (q : Parts) (shape : Shape) (caller : Caller) (call : Call) (b : Board) → IsOf shape words q b → plan_by words shape caller call ≡ plan_on b caller call
 same_plan words q shape caller call b is =
@@ -34,7 +30,7 @@ module _ (q : Parts) (caller : Caller) (call : Call) (ws : Wishes) (b : Board) (
         told = sym (ap (λ (l : Log). l.events) h.log);
         leads = refl;
       };
-      agrees = λ p v e. ap (λ (x : Parts). part_in x p) (counted_all (would_publish b call) (run (plan_on b caller call) b ws).board) ∙ h.agrees p v e;
+      agrees = λ p v e. ap (λ (x : Parts). part_in x p) (grind arith) ∙ h.agrees p v e;
       held = h.held;
       reached = λ p within. h.all p (reach_is_table b caller call ws p ∙ within);
     };

@@ -56,10 +56,7 @@ pin_once None n = none (numbers_below n)
     none : (xs : List ℕ) → total (λ m. 0) xs ≤ 1
     none [] = omega arith
     none (x ∷ xs) = omega (arith, none xs)
-pin_once (Some k) n = at_most_one (nat_lt k n) (once_below k n)
-  where
-    at_most_one : (t : Bool) → total (λ m. if nat_eq k m then 1 else 0) (numbers_below n) ≡ (if t then 1 else 0) → total (λ m. if nat_eq k m then 1 else 0) (numbers_below n) ≤ 1
-    at_most_one t h1 = grind arith
+pin_once (Some k) n = grind (arith, (once_below k n))
 
 -- no two pins of the I/O APIC have one GSI
 pub ioapic_apart : (table : Table) (n : ℕ) → AreApart (λ pin. gsi_of table pin) (map Ioapic (numbers_below n))

@@ -81,13 +81,10 @@ resamplers registry = total resample_weight registry.irqfds
 
 resample_events-count : (gsi : ℕ) (rows : List Irqfd) → length (resample_events rows gsi) ≡ total (λ row. counted_at row.gsi (resample_weight row) (Some gsi)) rows
 resample_events-count gsi [] = refl
-resample_events-count gsi (row ∷ rows) = by_test (nat_eq row.gsi gsi) row.resample (resample_events-count gsi rows)
+resample_events-count gsi (row ∷ rows) = grind (arith, (resample_events-count gsi rows))
   where
     rest : ℕ
     rest = total (λ row. counted_at row.gsi (resample_weight row) (Some gsi)) rows
-
-    by_test : (t : Bool) (o : Option ℕ) → length (resample_events rows gsi) ≡ rest → length (map Resampled (cons_option (if t then o else None) (resampled rows gsi))) ≡ (if t then (if is_some o then 1 else 0) else 0) + rest
-    by_test t o h1 = grind arith
 
 watch_events-count : (gsi : ℕ) (rows : List Watch) → length (watch_events rows gsi) ≡ total (λ row. counted_at row.gsi 1 (Some gsi)) rows
 watch_events-count gsi [] = refl

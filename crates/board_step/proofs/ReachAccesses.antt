@@ -15,14 +15,11 @@ Each P (x ∷ xs) = P x × Each P xs
 each_passing : {X : Type 0} (P : X → Type 0) (t : X → Bool) → ((x : X) → t x ≡ true → P x) → (xs : List X) → list_all t xs ≡ true → Each P xs
 unfolding Each
 each_passing P t told [] pass = tt
-each_passing P t told (x ∷ xs) pass = (told x (first (t x) (list_all t xs) pass), each_passing P t told xs (second (t x) (list_all t xs) pass))
+each_passing P t told (x ∷ xs) pass = (told x (first (t x) (list_all t xs) pass), each_passing P t told xs (grind (arith, pass)))
   where
     first : (a b : Bool) → (a && b) ≡ true → a ≡ true
     first true b h = refl
     first false b h = h
-
-    second : (a b : Bool) → (a && b) ≡ true → b ≡ true
-    second a b h1 = grind arith
 
 -- it holds of the one that is found, or of none
 found_all : {X : Type 0} (P : Option X → Type 0) (p : X → Bool) (xs : List X) → P None → Each (λ x. P (Some x)) xs → P (find p xs)

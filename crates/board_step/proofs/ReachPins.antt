@@ -214,10 +214,7 @@ module _ (routing : Routing) (shape : Shape) where
       within_clear h = ap (λ m. of_message m None shape.cpus q) (sym (again_is (pin_acked chip pin) pin message sent)) ∙ answer_within (pin_acked chip pin) pin shape.cpus q h
 
       same_message : message_of (entry_at (pin_accepted (pin_acked chip pin) pin) pin) ≡ message
-      same_message = ap message_of (accepted_entry (pin_acked chip pin) pin pin) ∙ either (nat_eq pin pin) (entry_at (pin_acked chip pin) pin) ∙ again_is (pin_acked chip pin) pin message sent
-        where
-          either : (t : Bool) (e : Entry) → message_of (if t then irr_accepted e else e) ≡ message_of e
-          either t e = grind arith
+      same_message = ap message_of (accepted_entry (pin_acked chip pin) pin pin) ∙ (grind arith) ∙ again_is (pin_acked chip pin) pin message sent
 
       within_again : Within again pin
       within_again h = ap (λ m. of_message m None shape.cpus q) (sym same_message) ∙ answer_within (pin_accepted (pin_acked chip pin) pin) pin shape.cpus q h

@@ -11,9 +11,6 @@ use Rattle.board_step.proofs.SoundHolds.{hold_more, hold_less}
 pub tick_injected_low : (s : TickState) (status : Status) (bound : ℕ) → s.pending ≤ bound → (tick_injected s status).pending ≤ bound
 tick_injected_low s status bound low = elim s.reinjects as (λ t. (if t then record s { free = is_ignored status } else s).pending ≤ bound) [ true ↦ low | false ↦ low ]
 
-tick_acked_low : (s : TickState) (bound : ℕ) → s.pending ≤ bound → (tick_acked s).pending ≤ bound
-tick_acked_low s bound h1 = grind arith
-
 pub tick_is_not : {A : Type 0} → TickSource ≡ Resample → A
 tick_is_not e = cc
 
@@ -87,7 +84,7 @@ module _ (r : RegistryPart) (shape : Shape) (bound : ℕ) where
       notifies = λ registry gsi seen b each. fits Part.Counters (signalled_all b.counters (watched registry.watches gsi)) b each
           (counts_signalled_all r shape.counters (watched registry.watches gsi) b.counters (each Part.Counters) (subst (λ (q : RegistryPart). NoTriggers r (watched q.watches gsi)) (sym (is_seen registry seen)) (watched_free shape r fine gsi)));
       clears = λ pin b each. fits Part.Ioapic (with_ioapic b.ioapic (pin_acked (ioapic_of b.ioapic) pin)) b each (record { entries = length-set b.ioapic.entries pin _ ∙ (each Part.Ioapic).entries; holds = (each Part.Ioapic).holds });
-      frees = λ b each. fits Part.Tick (tick_acked b.tick) b each (tick_acked_low b.tick bound (each Part.Tick));
+      frees = λ b each. fits Part.Tick (tick_acked b.tick) b each (grind (arith, (each Part.Tick)));
       falls = λ status b each. fits Part.Tick (tick_injected b.tick status) b each (tick_injected_low b.tick status bound (each Part.Tick));
       pairs = λ pair b each. fits Part.Pic (with_pair b.pic pair) b each (each Part.Pic);
       stores = λ offset value b each. fits Part.Ioapic (with_ioapic b.ioapic (write_to (ioapic_of b.ioapic) offset value).after) b each (record { entries = write_length (ioapic_of b.ioapic) offset value ∙ (each Part.Ioapic).entries; holds = (each Part.Ioapic).holds });
