@@ -29,7 +29,6 @@ shows (the_reply pic) e = absurd (true≢false e)
 shows about e = open_shows mute is_open about (λ other b ws fit. refl) (λ m g k h b ws fit. h (g (next_wish ws)) b (later_wishes ws) tt)
 
 module _ (routing : Routing) (shape : Shape) where
-
   ends : Ends mute routing shape
   ends = record {
     levels = end_level_holds mute shape.cpus (open_signals mute is_open) (λ pin. shows (resent pin) refl) (λ pin b fit. tt);

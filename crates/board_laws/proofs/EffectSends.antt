@@ -189,7 +189,6 @@ module _ (b : Board) (stand : HasProcessors b b.shape.cpus) (targets : Targets) 
 
     -- a message that was sent
     module _ (p : Processor) (ps : List Processor) (taken : is_taken message.mode ≡ true) (named : named_on d b.shape.cpus message None ≡ p ∷ ps) (legal : is_illegal message ≡ false) where
-
       sending_says : {s : Numbers} (o : Outcome TargetAnswer) → MayReach message.mode (named_on d b.shape.cpus message None) s → IsSending message None about d s o → Says b targets o
       sending_says {s} o may is = record {
         status = status_of (pic_answer_on b targets.pic) (Some (message_answer is.sent)) is.sent;

@@ -124,7 +124,6 @@ module _ (asked : Cause → Bool) where
   one_answers pic other h1 = grind arith
 
   module _ (b : Board) (no_mode : asked Cause.Mode ≡ false) (no_vector : asked Cause.BadVector ≡ false) (nobody : asked Cause.NoProcessor ≡ false) where
-
     -- an 8259A pin answers that it is masked alone
     pic_answers : (pin : Option ℕ) → answers_cause asked (pic_answer_on b pin) ≡ true → (n : ℕ) × (pin ≡ Some n) × (is_masked (pin_outcome (pair_of b.pic) n true) ≡ true) × (asked Masked ≡ true)
     pic_answers pin h1 = grind arith

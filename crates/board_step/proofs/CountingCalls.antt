@@ -60,7 +60,7 @@ module _ (routing : Routing) (shape : Shape) (registry : RegistryPart) (most : �
           (record { replies = λ _. tt; events = λ _. tt; writes = λ _. tt; refuses = λ _. tt }) (λ reads there. absurd (true≢false (sym is ∙ reads))) b ws tt
       by_kind false is =
           let told = in_range (counting (HasRegistry registry) (registry_kind registry) ⊥ (λ never b v h. absurd never)) routing shape most bounds.few n call
-              (record { replies = λ _. tt; events = λ _. tt; writes = λ may. absurd (true≢false (sym may ∙ is)); refuses = λ _. tt }) (λ reads there. acks) b ws h in
+          (record { replies = λ _. tt; events = λ _. tt; writes = λ may. absurd (true≢false (sym may ∙ is)); refuses = λ _. tt }) (λ reads there. acks) b ws h in
           record { events_at_most = told.events_at_most; answers_exactly = told.answers_exactly; left = tt }
 
   -- a call answers once, and tells at most so many events

@@ -18,7 +18,6 @@ marks_resamplers b gsi has = ap (λ t. t || (has_watch b.registry.watches gsi ||
 -- ---- the pins of one call
 
 module _ (routing : Routing) (shape : Shape) (tells : TellsPins routing shape) where
-
   both_ways : {P : Type 0} (a c : ℕ) → nat_eq a c ≡ false → nat_eq a c ≡ true → P
   both_ways a c other same = absurd (true≢false (sym same ∙ other))
 

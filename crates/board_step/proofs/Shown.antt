@@ -64,7 +64,6 @@ module _ (w : Manner) where
   answered_replies x l none r = record { events = r.events; answers = ap (λ ws. ws ++ wishes_replied l.answers) (reply_none x none) ∙ r.answers }
 
   module _ (m : Heading) (s : Sent) (l : Log) (somebody : is_empty (reached s) ≡ false) where
-
     first : (pic : Option TargetAnswer) (vs us : Wishes) → vs ≡ us → wish_of (sets_of (status_sent pic s)) ++ vs ≡ reached s ∷ us
     first pic vs us same = ap (λ ws. ws ++ vs) (ap wish_of (sets-sent pic s) ∙ wished s somebody) ∙ ap (λ ws. reached s ∷ ws) same
 
