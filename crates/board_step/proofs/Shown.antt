@@ -40,67 +40,47 @@ reply_none _ h = refl
 
 -- ---- a log
 
--- the events show the wishes of all sendings, and the replies none
-pub record InEvents (l : Log) : Type 0 where
-  pub events : wishes_told l.events ≡ shown_wishes l.sendings
-  pub answers : wishes_replied l.answers ≡ []
-
--- the replies show the wishes of all sendings, and the events none
-pub record InReplies (l : Log) : Type 0 where
-  pub events : wishes_told l.events ≡ []
-  pub answers : wishes_replied l.answers ≡ shown_wishes l.sendings
+-- the events and then the replies show the wishes of all sendings, and the events none where the replies show them
+record AllShown (replies : Bool) (l : Log) : Type 0 where
+  none : replies ≡ true → wishes_told l.events ≡ []
+  all : wishes_told l.events ++ wishes_replied l.answers ≡ shown_wishes l.sendings
 
 module _ (w : Manner) where
-  told_events : (x : Event) (l : Log) → sets_told x ≡ nobody → InEvents l → InEvents (told x l)
-  told_events x l none r = record { events = ap (λ ws. ws ++ wishes_told l.events) (event_none x none) ∙ r.events; answers = r.answers }
+  module _ (m : Heading) (s : Sent) (l : Log) (somebody : is_empty (reached s) ≡ false) (r : AllShown w.replies l) where
+    shows : (pic : Option TargetAnswer) → wish_of (sets_of (status_sent pic s)) ≡ reached s ∷ []
+    shows pic = ap wish_of (sets-sent pic s) ∙ wished s somebody
 
-  told_replies : (x : Event) (l : Log) → sets_told x ≡ nobody → InReplies l → InReplies (told x l)
-  told_replies x l none r = record { events = ap (λ ws. ws ++ wishes_told l.events) (event_none x none) ∙ r.events; answers = r.answers }
+    before : (pic : Option TargetAnswer) → (wish_of (sets_of (status_sent pic s)) ++ wishes_told l.events) ++ wishes_replied l.answers ≡ reached s ∷ shown_wishes l.sendings
+    before pic = ap (λ ws. (ws ++ wishes_told l.events) ++ wishes_replied l.answers) (shows pic) ∙ ap (λ ws. reached s ∷ ws) r.all
 
-  answered_events : (x : Reply) (l : Log) → sets_replied x ≡ nobody → InEvents l → InEvents (answered x l)
-  answered_events x l none r = record { events = r.events; answers = ap (λ ws. ws ++ wishes_replied l.answers) (reply_none x none) ∙ r.answers }
-
-  answered_replies : (x : Reply) (l : Log) → sets_replied x ≡ nobody → InReplies l → InReplies (answered x l)
-  answered_replies x l none r = record { events = r.events; answers = ap (λ ws. ws ++ wishes_replied l.answers) (reply_none x none) ∙ r.answers }
-
-  module _ (m : Heading) (s : Sent) (l : Log) (somebody : is_empty (reached s) ≡ false) where
-    first : (pic : Option TargetAnswer) (vs us : Wishes) → vs ≡ us → wish_of (sets_of (status_sent pic s)) ++ vs ≡ reached s ∷ us
-    first pic vs us same = ap (λ ws. ws ++ vs) (ap wish_of (sets-sent pic s) ∙ wished s somebody) ∙ ap (λ ws. reached s ∷ ws) same
-
-    sent_events : w.replies ≡ false → (about : About) → shows_there w about ≡ true → InEvents l → InEvents (sending m about s l)
-    sent_events there (injected gsi pic) place r = record { events = first pic (wishes_told l.events) (shown_wishes l.sendings) r.events; answers = r.answers }
-    sent_events there (the_reply pic) place r = absurd (true≢false (sym place ∙ ap (λ t. if t then true else false) there))
-    sent_events there _ place r = record { events = first None (wishes_told l.events) (shown_wishes l.sendings) r.events; answers = r.answers }
-
-    sent_replies : w.replies ≡ true → (about : About) → shows_there w about ≡ true → InReplies l → InReplies (sending m about s l)
-    sent_replies there (the_reply pic) place r = record { events = r.events; answers = first pic (wishes_replied l.answers) (shown_wishes l.sendings) r.answers }
-    sent_replies there _ place r = absurd (true≢false (sym place ∙ ap (λ t. if t then false else true) there))
+    sent : (about : About) → shows_there w about ≡ true → AllShown w.replies (sending m about s l)
+    sent (the_reply pic) place =
+        let none = r.none (there w.replies place) in
+        record { none = r.none; all = (λ i. none i ++ (shows pic i ++ wishes_replied l.answers)) ∙ ap (λ ws. reached s ∷ ws) (sym (ap (λ ws. ws ++ wishes_replied l.answers) none) ∙ r.all) }
+      where
+        there : (t : Bool) → (if t then true else false) ≡ true → t ≡ true
+        there t h1 = grind arith
+    sent (injected gsi pic) place = record { none = λ there. absurd (true≢false (sym place ∙ ap (λ t. if t then false else true) there)); all = before pic }
+    sent _ place = record { none = λ there. absurd (true≢false (sym place ∙ ap (λ t. if t then false else true) there)); all = before None }
 
   -- ---- a plan
 
-  pub in_events : {A : Type 0} (m : Plan A) (b : Board) (ws : Wishes) → w.replies ≡ false → Keeps w m → InEvents (run m b ws).log
-  in_events (done a) b ws there h = record { events = refl; answers = refl }
-  in_events (look p k) b ws there h = in_events (k (part_of b p)) b ws there (h (part_of b p))
-  in_events (put p v rest) b ws there h = in_events rest (with_part b p v) ws there h.1
-  in_events (tell x rest) b ws there h = told_events x (run rest b ws).log h.0 (in_events rest b ws there h.1)
-  in_events (answer x rest) b ws there h = answered_events x (run rest b ws).log h.0.sets (in_events rest b ws there h.1)
-  in_events (choose m about g k) b ws there h =
+  shown_all : {A : Type 0} (m : Plan A) (b : Board) (ws : Wishes) → Keeps w m → AllShown w.replies (run m b ws).log
+  shown_all (done a) b ws h = record { none = λ _. refl; all = refl }
+  shown_all (look p k) b ws h = shown_all (k (part_of b p)) b ws (h (part_of b p))
+  shown_all (put p v rest) b ws h = shown_all rest (with_part b p v) ws h.1
+  shown_all (tell x rest) b ws h =
+      let l = (run rest b ws).log in
+      let r = shown_all rest b ws h.1 in
+      record { none = λ there. (λ i. event_none x h.0 i ++ r.none there i); all = ap (λ ws. (ws ++ wishes_told l.events) ++ wishes_replied l.answers) (event_none x h.0) ∙ r.all }
+  shown_all (answer x rest) b ws h =
+      let l = (run rest b ws).log in
+      let r = shown_all rest b ws h.1 in
+      record { none = r.none; all = ap (λ ws. wishes_told l.events ++ (ws ++ wishes_replied l.answers)) (reply_none x h.0.sets) ∙ r.all }
+  shown_all (choose m about g k) b ws h =
       let s = g (next_wish ws) in
-      sent_events m s (run (k s) b (later_wishes ws)).log (h.0.somebody (next_wish ws)) there about h.0.place (in_events (k s) b (later_wishes ws) there (h.1 s))
+      sent m s (run (k s) b (later_wishes ws)).log (h.0.somebody (next_wish ws)) (shown_all (k s) b (later_wishes ws) (h.1 s)) about h.0.place
 
-  pub in_replies : {A : Type 0} (m : Plan A) (b : Board) (ws : Wishes) → w.replies ≡ true → Keeps w m → InReplies (run m b ws).log
-  in_replies (done a) b ws there h = record { events = refl; answers = refl }
-  in_replies (look p k) b ws there h = in_replies (k (part_of b p)) b ws there (h (part_of b p))
-  in_replies (put p v rest) b ws there h = in_replies rest (with_part b p v) ws there h.1
-  in_replies (tell x rest) b ws there h = told_replies x (run rest b ws).log h.0 (in_replies rest b ws there h.1)
-  in_replies (answer x rest) b ws there h = answered_replies x (run rest b ws).log h.0.sets (in_replies rest b ws there h.1)
-  in_replies (choose m about g k) b ws there h =
-      let s = g (next_wish ws) in
-      sent_replies m s (run (k s) b (later_wishes ws)).log (h.0.somebody (next_wish ws)) there about h.0.place (in_replies (k s) b (later_wishes ws) there (h.1 s))
-
-  -- either way the events and then the replies show the wishes of the sendings
+  -- the events and then the replies show the wishes of the sendings
   pub all_shown : {A : Type 0} (m : Plan A) (b : Board) (ws : Wishes) → Keeps w m → wishes_told (run m b ws).log.events ++ wishes_replied (run m b ws).log.answers ≡ shown_wishes (run m b ws).log.sendings
-  all_shown m b ws h = elim w.replies as (λ t. w.replies ≡ t → wishes_told (run m b ws).log.events ++ wishes_replied (run m b ws).log.answers ≡ shown_wishes (run m b ws).log.sendings) [
-    | true ↦ λ there. let r = in_replies m b ws there h in ap (λ l. l ++ wishes_replied (run m b ws).log.answers) r.events ∙ r.answers
-    | false ↦ λ there. let r = in_events m b ws there h in ap (λ l. wishes_told (run m b ws).log.events ++ l) r.answers ∙ append-nil _ ∙ r.events
-  ] refl
+  all_shown m b ws h = (shown_all m b ws h).all
