@@ -1,5 +1,5 @@
 -- Ticks are conserved, they are injected where the state is free, and other injections follow acknowledges.
-use Rattle.board_laws.proofs.Basics.{last_is_one, ◌≡◌, ℕ, ◌+◌, ◌-◌, Bool, true, false, true≢false, not, ◌&&◌, ◌||◌, nat_eq, min, if◌then◌else◌, ◌⊎◌, inl, inr, List, [], ◌∷◌, ◌++◌, refl, sym, ap, subst, ◌∙◌, arith, Some, None, Contains, list_any, Option, nat_tests, Contains-append_left, Contains-append_right, Call, Caller, Event, Acked, Rang, Injected, Entry, TickSource, Held, Signal, Part, Shape, Status, TickState, in_mode, ticked, tick_injects, tick_injected, Board, part_of, with_part, Routing, routing_of_registry, the_reply, Plan, change, Wishes, Outcome, run, inject, tick_or_hold, ◌≢◌, run-bind, plan_on, outcome_of, with_counts, would_publish, Step, opening, next_board, Leads, board_after, board_at, board_left, OfLegalHistories, is_tick, ticks_in, acks_in, ticks_taken_by, ticks_taken, is_tick_mode, sets_mode, StartsReinjection, TicksAreConserved, HoldsBack, BusyTicksAreHeldBack, IsFreeUnlessReinjects, StateIsFreeUnlessReinjects, FallsFree, TicksInjectFree, acks_or_injects, FollowsAcknowledge, OtherInjectionsFollowAcknowledges, next_is, or_neither}
+use Rattle.board_laws.proofs.Basics.{routing_on, last_is_one, ◌≡◌, ℕ, ◌+◌, ◌-◌, Bool, true, false, true≢false, not, ◌&&◌, ◌||◌, nat_eq, min, if◌then◌else◌, ◌⊎◌, inl, inr, List, [], ◌∷◌, ◌++◌, refl, sym, ap, subst, ◌∙◌, arith, Some, None, Contains, list_any, Option, nat_tests, Contains-append_left, Contains-append_right, Call, Caller, Event, Acked, Rang, Injected, Entry, TickSource, Held, Signal, Part, Shape, Status, TickState, in_mode, ticked, tick_injects, tick_injected, Board, part_of, with_part, Routing, routing_of_registry, the_reply, Plan, change, Wishes, Outcome, run, inject, tick_or_hold, ◌≢◌, run-bind, plan_on, outcome_of, with_counts, would_publish, Step, opening, next_board, Leads, board_after, board_at, board_left, OfLegalHistories, is_tick, ticks_in, acks_in, ticks_taken_by, ticks_taken, is_tick_mode, sets_mode, StartsReinjection, TicksAreConserved, HoldsBack, BusyTicksAreHeldBack, IsFreeUnlessReinjects, StateIsFreeUnlessReinjects, FallsFree, TicksInjectFree, acks_or_injects, FollowsAcknowledge, OtherInjectionsFollowAcknowledges, next_is, or_neither}
 use Rattle.board_laws.proofs.Points.{split, after_both, step_at, holds_at, at_points, of_boards}
 use Rattle.board_laws.proofs.ConservingQuiet.{inject_quiet}
 use Rattle.board_laws.proofs.ConservingAcks.{Conserves, is_rang, due_after, Singly, acks_append, quiet_acks}
@@ -42,12 +42,9 @@ lets_all _ other stays = tt
 balances : (b : Board) (caller : Caller) (ws : Wishes) → b.tick.reinjects ≡ true → (call : Call) → is_tick_mode call ≡ false → Balances call b (run (plan_on b caller call) b ws)
 balances b caller ws on call stays = by_call call stays
   where
-    routing : Routing
-    routing = routing_of_registry b.registry b.shape.tick
-
     others : (call : Call) → is_tick call ≡ 0 → is_tick_mode call ≡ false → Balances call b (run (plan_on b caller call) b ws)
     others call other stays =
-        let r = call_keeps routing b.shape true (λ _. true) caller call (lets_all call other stays) b ws in
+        let r = call_keeps (routing_on b) b.shape true (λ _. true) caller call (lets_all call other stays) b ws in
         let o = run (plan_on b caller call) b ws in
         record { reinjects = r.reinjects ∙ on; balance = sum o.board.tick.pending b.tick.pending (acks_in b.shape.tick o.log.events) (is_tick call) (r.pending on) other }
       where
@@ -59,10 +56,10 @@ balances b caller ws on call stays = by_call call stays
         let held = ticked b.tick in
         let injects = tick_injects b.tick in
         let during = with_part b Part.Tick held in
-        let r = tick_keeps routing b.shape true (λ _. true) held injects during ws in
-        let o = run (tick_or_hold routing b.shape held injects) during ws in
+        let r = tick_keeps (routing_on b) b.shape true (λ _. true) held injects during ws in
+        let o = run (tick_or_hold (routing_on b) b.shape held injects) during ws in
         let more = ticked_more b.tick on in
-        record { reinjects = r.reinjects ∙ more.0; balance = sum o.board.tick.pending held.pending b.tick.pending (acks_in b.shape.tick o.log.events) (r.pending more.0) more.1 (fall_acks routing b.shape b.shape.tick held injects during ws) }
+        record { reinjects = r.reinjects ∙ more.0; balance = sum o.board.tick.pending held.pending b.tick.pending (acks_in b.shape.tick o.log.events) (r.pending more.0) more.1 (fall_acks (routing_on b) b.shape b.shape.tick held injects during ws) }
       where
         sum : (left held was acks : ℕ) → left ≡ held - (0 + acks) → held ≡ was + 1 → acks ≡ 0 → left + min acks was ≡ was + 1
         sum left held was acks e f g = omega (arith, e, f, g)
@@ -147,11 +144,8 @@ held_back b e c s falls on never =
     during : Board
     during = with_part b Part.Tick (ticked b.tick)
 
-    routing : Routing
-    routing = routing_of_registry b.registry b.shape.tick
-
-    is : outcome_of b e s.wishes ≡ run (tick_or_hold routing b.shape (ticked b.tick) false) during s.wishes
-    is = ap (λ (call : Call). run (plan_on b e.caller call) b s.wishes) falls ∙ ap (λ (t : Bool). run (tick_or_hold routing b.shape (ticked b.tick) t) during s.wishes) never
+    is : outcome_of b e s.wishes ≡ run (tick_or_hold (routing_on b) b.shape (ticked b.tick) false) during s.wishes
+    is = ap (λ (call : Call). run (plan_on b e.caller call) b s.wishes) falls ∙ ap (λ (t : Bool). run (tick_or_hold (routing_on b) b.shape (ticked b.tick) t) during s.wishes) never
 
     left : c ≡ with_counts (would_publish b e.call) during
     left = sym s.leads ∙ ap (λ (o : Outcome (Unit {0})). with_counts (would_publish b e.call) o.board) is
@@ -175,14 +169,11 @@ ticked_open s = elim s.reinjects as (λ t. IsOpen s → IsOpen (if t then record
 call_open : (b : Board) (caller : Caller) (ws : Wishes) (call : Call) → IsOpen b.tick → IsOpen (run (plan_on b caller call) b ws).board.tick
 call_open b caller ws call before = by_call call
   where
-    routing : Routing
-    routing = routing_of_registry b.registry b.shape.tick
-
     by_call : (call : Call) → IsOpen (run (plan_on b caller call) b ws).board.tick
     by_call Call.Tick =
-        open_stays (tick_keeps routing b.shape true (λ _. true) (ticked b.tick) (tick_injects b.tick) (with_part b Part.Tick (ticked b.tick)) ws) (ticked_open b.tick before)
+        open_stays (tick_keeps (routing_on b) b.shape true (λ _. true) (ticked b.tick) (tick_injects b.tick) (with_part b Part.Tick (ticked b.tick)) ws) (ticked_open b.tick before)
     by_call (Call.TickMode reinject) = λ _. refl
-    by_call call = open_stays (call_keeps routing b.shape true (λ _. true) caller call (lets_all call refl refl) b ws) before
+    by_call call = open_stays (call_keeps (routing_on b) b.shape true (λ _. true) caller call (lets_all call refl refl) b ws) before
 
 step_open : (b : Board) (e : Entry) (c : Board) → Step b e c → IsFreeUnlessReinjects b → IsFreeUnlessReinjects c
 step_open b e c s before =
@@ -222,13 +213,10 @@ lets_none _ makes other stays = tt
 singly : (b : Board) (caller : Caller) (ws : Wishes) (call : Call) → ((trigger gsi : ℕ) (resample : Option ℕ) → call ≡ Call.Assign trigger gsi resample → ⊥) → Singly b.shape.tick (λ _. false) false (run (plan_on b caller call) b ws).log.events
 singly b caller ws call makes = by_call call makes
   where
-    routing : Routing
-    routing = routing_of_registry b.registry b.shape.tick
-
     by_call : (call : Call) → ((trigger gsi : ℕ) (resample : Option ℕ) → call ≡ Call.Assign trigger gsi resample → ⊥) → Singly b.shape.tick (λ _. false) false (run (plan_on b caller call) b ws).log.events
-    by_call Call.Tick makes = (tick_keeps routing b.shape true (λ _. false) (ticked b.tick) (tick_injects b.tick) (with_part b Part.Tick (ticked b.tick)) ws).singly
+    by_call Call.Tick makes = (tick_keeps (routing_on b) b.shape true (λ _. false) (ticked b.tick) (tick_injects b.tick) (with_part b Part.Tick (ticked b.tick)) ws).singly
     by_call (Call.TickMode reinject) makes = tt
-    by_call call makes = (call_keeps routing b.shape true (λ _. false) caller call (lets_none call makes refl refl) b ws).singly
+    by_call call makes = (call_keeps (routing_on b) b.shape true (λ _. false) caller call (lets_none call makes refl refl) b ws).singly
 
 -- no event of these is that of an ioeventfd
 abbrev RingsNothing : List Event → Type 0

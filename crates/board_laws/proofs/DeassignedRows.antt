@@ -1,5 +1,5 @@
 -- The rows of irqfds along a history: each trigger has one row at most, and a trigger whose row went has none until one is made.
-use Rattle.board_laws.proofs.Basics.{last_is_one, ◌≡◌, ℕ, Bool, true, false, true≢false, cond, not, ◌||◌, nat_eq, nat_lt, ◌⊎◌, inl, inr, List, [], ◌∷◌, ◌++◌, filter, refl, sym, ap, subst, ◌∙◌, arith, Some, None, find, list_any, first_so, unsigned_Decides, Option, eqb_tells, list_any-append, first_of, Call, Caller, Entry, Resample, Refusal, Busy, RoleClash, Reply, Done, Removed, Shape, Irqfd, taken, has_trigger, is_named, named_row, with_row, without_row, Board, RegistryPart, Routing, routing_of_registry, injected, Plan, done, reply, ◌>>◌, Wishes, Outcome, run, inject, range_reasons, is_trigger, is_signalled, resample_clashes, assign_reasons, attach_reasons, detach_reasons, watch_reasons, unwatch_reasons, unless_refused, source_of, inject_count, assigned, release, deassigned, number_of, io_row, plan_in_range, slice_index, is_some, no_reason, run-bind, Manner, Keeps, keeps_bind, registry_stays, let_go_keeps, inject_keeps, plan_on, outcome_of, with_counts, would_publish, Step, opening, EndsTrigger, MakesTrigger, replies_in, writes_in, refuses_in, ends, call_keeps, or_true, or_neither, or_both, none_fewer}
+use Rattle.board_laws.proofs.Basics.{routing_on, last_is_one, ◌≡◌, ℕ, Bool, true, false, true≢false, cond, not, ◌||◌, nat_eq, nat_lt, ◌⊎◌, inl, inr, List, [], ◌∷◌, ◌++◌, filter, refl, sym, ap, subst, ◌∙◌, arith, Some, None, find, list_any, first_so, unsigned_Decides, Option, eqb_tells, list_any-append, first_of, Call, Caller, Entry, Resample, Refusal, Busy, RoleClash, Reply, Done, Removed, Shape, Irqfd, taken, has_trigger, is_named, named_row, with_row, without_row, Board, RegistryPart, Routing, routing_of_registry, injected, Plan, done, reply, ◌>>◌, Wishes, Outcome, run, inject, range_reasons, is_trigger, is_signalled, resample_clashes, assign_reasons, attach_reasons, detach_reasons, watch_reasons, unwatch_reasons, unless_refused, source_of, inject_count, assigned, release, deassigned, number_of, io_row, plan_in_range, slice_index, is_some, no_reason, run-bind, Manner, Keeps, keeps_bind, registry_stays, let_go_keeps, inject_keeps, plan_on, outcome_of, with_counts, would_publish, Step, opening, EndsTrigger, MakesTrigger, replies_in, writes_in, refuses_in, ends, call_keeps, or_true, or_neither, or_both, none_fewer}
 use Rattle.board_laws.proofs.ConservingAcks.{or_right}
 
 -- ---- rows
@@ -79,9 +79,6 @@ abbrev reading : Bool → Manner
 reading replies = record { replies = replies; writes = false; refuses = true }
 
 module _ (b : Board) (caller : Caller) (ws : Wishes) where
-  abbrev routing : Routing
-  routing = routing_of_registry b.registry b.shape.tick
-
   unless_rows : (call : Call) (refusal : Option Refusal) (plan : Plan (Unit {0})) → (refusal ≡ None → RowsAfter b call (run plan b ws)) → RowsAfter b call (run (unless_refused refusal plan) b ws)
   unless_rows call None plan h = h refl
   unless_rows call (Some refusal) plan h = inl refl
@@ -91,15 +88,15 @@ module _ (b : Board) (caller : Caller) (ws : Wishes) where
   unwritten call never =
       let w = reading (replies_in call) in
       inl (ap (λ (r : RegistryPart). r.irqfds) (registry_stays w (plan_on b caller call) b ws refl
-      (call_keeps w routing b.shape caller call refl (record { replies = refl; writes = ap (λ t. t || false) never; refuses = or_true (not (refuses_in call)) }))))
+      (call_keeps w (routing_on b) b.shape caller call refl (record { replies = refl; writes = ap (λ t. t || false) never; refuses = or_true (not (refuses_in call)) }))))
 
   -- an irqfd is made
 
-  made : (trigger gsi : ℕ) (resample : Option ℕ) → first_of (assign_reasons b.registry trigger resample) ≡ None → RowsAfter b (Call.Assign trigger gsi resample) (run (assigned routing b.shape b.registry b.counters trigger gsi resample) b ws)
+  made : (trigger gsi : ℕ) (resample : Option ℕ) → first_of (assign_reasons b.registry trigger resample) ≡ None → RowsAfter b (Call.Assign trigger gsi resample) (run (assigned (routing_on b) b.shape b.registry b.counters trigger gsi resample) b ws)
   made trigger gsi resample none =
       let w = reading false in
       let injects = nat_lt 0 (slice_index b.counters trigger) in
-      let m = inject_count routing b.shape gsi resample injects in
+      let m = inject_count (routing_on b) b.shape gsi resample injects in
       let during : Board = record b { registry = record b.registry { irqfds = with_row b.registry.irqfds trigger gsi resample }; counters = taken b.counters trigger } in
       inr (inl (record {
         trigger = trigger;
@@ -112,34 +109,34 @@ module _ (b : Board) (caller : Caller) (ws : Wishes) where
         answers = ap (λ (o : Outcome (Unit {0})). o.log.answers) (run-bind (λ _. reply Done) m during ws);
       }))
     where
-      count_keeps : (injects : Bool) → Keeps (reading false) (inject_count routing b.shape gsi resample injects)
+      count_keeps : (injects : Bool) → Keeps (reading false) (inject_count (routing_on b) b.shape gsi resample injects)
       count_keeps false = tt
       count_keeps true =
-          keeps_bind (reading false) (λ _. done tt) (inject b.shape.cpus (routing.targets gsi) (source_of (is_some resample)) (λ pic. injected gsi pic))
-          (inject_keeps (reading false) b.shape.cpus (routing.targets gsi) (source_of (is_some resample)) (λ pic. injected gsi pic) (λ _. refl)) (λ _. tt)
+          keeps_bind (reading false) (λ _. done tt) (inject b.shape.cpus ((routing_on b).targets gsi) (source_of (is_some resample)) (λ pic. injected gsi pic))
+          (inject_keeps (reading false) b.shape.cpus ((routing_on b).targets gsi) (source_of (is_some resample)) (λ pic. injected gsi pic) (λ _. refl)) (λ _. tt)
 
   -- an irqfd ends
 
-  release_keeps : (gsi : ℕ) (last : Bool) → Keeps (reading false) (release routing gsi last)
-  release_keeps gsi true = let_go_keeps (reading false) (routing.targets gsi) Resample
+  release_keeps : (gsi : ℕ) (last : Bool) → Keeps (reading false) (release (routing_on b) gsi last)
+  release_keeps gsi true = let_go_keeps (reading false) ((routing_on b).targets gsi) Resample
   release_keeps gsi false = tt
 
-  pub gone : (trigger gsi : ℕ) (row : Irqfd) → (run (deassigned routing b.registry trigger gsi (Some row)) b ws).board.registry.irqfds ≡ without_row b.registry.irqfds trigger gsi
+  pub gone : (trigger gsi : ℕ) (row : Irqfd) → (run (deassigned (routing_on b) b.registry trigger gsi (Some row)) b ws).board.registry.irqfds ≡ without_row b.registry.irqfds trigger gsi
   gone trigger gsi row = grind arith
 
-  ended : (trigger gsi : ℕ) (row : Option Irqfd) → RowsAfter b (Call.Deassign trigger gsi) (run (deassigned routing b.registry trigger gsi row) b ws)
+  ended : (trigger gsi : ℕ) (row : Option Irqfd) → RowsAfter b (Call.Deassign trigger gsi) (run (deassigned (routing_on b) b.registry trigger gsi row) b ws)
   ended trigger gsi None = inl refl
   ended trigger gsi (Some row) = inr (inr (record { trigger = trigger; gsi = gsi; rows = gone trigger gsi row }))
 
   -- each call
 
   abbrev in_range : Call → Plan (Unit {0})
-  in_range call = plan_in_range routing b.shape (number_of caller) call
+  in_range call = plan_in_range (routing_on b) b.shape (number_of caller) call
 
   pub rows_after : (call : Call) → RowsAfter b call (run (plan_on b caller call) b ws)
   rows_after (Call.Reroute rows) = unless_rows (Call.Reroute rows) (first_of (range_reasons b.shape (Call.Reroute rows))) (in_range (Call.Reroute rows)) (λ _. inl refl)
   rows_after (Call.Assign trigger gsi resample) = unless_rows (Call.Assign trigger gsi resample) (first_of (range_reasons b.shape (Call.Assign trigger gsi resample))) (in_range (Call.Assign trigger gsi resample))
-      (λ _. unless_rows (Call.Assign trigger gsi resample) (first_of (assign_reasons b.registry trigger resample)) (assigned routing b.shape b.registry b.counters trigger gsi resample) (made trigger gsi resample))
+      (λ _. unless_rows (Call.Assign trigger gsi resample) (first_of (assign_reasons b.registry trigger resample)) (assigned (routing_on b) b.shape b.registry b.counters trigger gsi resample) (made trigger gsi resample))
   rows_after (Call.Deassign trigger gsi) = unless_rows (Call.Deassign trigger gsi) (first_of (range_reasons b.shape (Call.Deassign trigger gsi))) (in_range (Call.Deassign trigger gsi)) (λ _. ended trigger gsi (named_row b.registry.irqfds trigger gsi))
   rows_after (Call.Attach space address len counter want) = unless_rows (Call.Attach space address len counter want) (first_of (range_reasons b.shape (Call.Attach space address len counter want))) (in_range (Call.Attach space address len counter want))
       (λ _. unless_rows (Call.Attach space address len counter want) (first_of (attach_reasons b.registry (io_row space address len counter want))) _ (λ _. inl refl))
@@ -195,14 +192,11 @@ ends_off trigger b e c s ends apart =
     (ap (λ call. list_any (has_trigger trigger) (run (plan_on b e.caller call) b s.wishes).board.registry.irqfds) ends.call ∙ by_range (first_of (range_reasons b.shape (Call.Deassign trigger ends.gsi)))
     (ap (λ call. (run (plan_on b e.caller call) b s.wishes).log.answers) (sym ends.call) ∙ s.replied ∙ ap (λ r. r ∷ []) ends.reply))
   where
-    routing : Routing
-    routing = routing_of_registry b.registry b.shape.tick
-
-    by_row : (row : Option Irqfd) → named_row b.registry.irqfds trigger ends.gsi ≡ row → (run (deassigned routing b.registry trigger ends.gsi row) b s.wishes).log.answers ≡ Removed 1 ∷ [] → list_any (has_trigger trigger) (run (deassigned routing b.registry trigger ends.gsi row) b s.wishes).board.registry.irqfds ≡ false
+    by_row : (row : Option Irqfd) → named_row b.registry.irqfds trigger ends.gsi ≡ row → (run (deassigned (routing_on b) b.registry trigger ends.gsi row) b s.wishes).log.answers ≡ Removed 1 ∷ [] → list_any (has_trigger trigger) (run (deassigned (routing_on b) b.registry trigger ends.gsi row) b s.wishes).board.registry.irqfds ≡ false
     by_row None is answers = cc
     by_row (Some row) is answers = ap (list_any (has_trigger trigger)) (gone b e.caller s.wishes trigger ends.gsi row) ∙ none_left trigger ends.gsi b.registry.irqfds row apart is
 
-    by_range : (refusal : Option Refusal) → (run (unless_refused refusal (plan_in_range routing b.shape (number_of e.caller) (Call.Deassign trigger ends.gsi))) b s.wishes).log.answers ≡ Removed 1 ∷ []
-        → list_any (has_trigger trigger) (run (unless_refused refusal (plan_in_range routing b.shape (number_of e.caller) (Call.Deassign trigger ends.gsi))) b s.wishes).board.registry.irqfds ≡ false
+    by_range : (refusal : Option Refusal) → (run (unless_refused refusal (plan_in_range (routing_on b) b.shape (number_of e.caller) (Call.Deassign trigger ends.gsi))) b s.wishes).log.answers ≡ Removed 1 ∷ []
+        → list_any (has_trigger trigger) (run (unless_refused refusal (plan_in_range (routing_on b) b.shape (number_of e.caller) (Call.Deassign trigger ends.gsi))) b s.wishes).board.registry.irqfds ≡ false
     by_range None answers = by_row (named_row b.registry.irqfds trigger ends.gsi) refl answers
     by_range (Some refusal) answers = cc

@@ -1,5 +1,5 @@
 -- From the end of an irqfd to the next of its trigger, a write of its counter or a guest write that rings it signals nothing.
-use Rattle.board_laws.proofs.Basics.{last_is_one, ◌≡◌, ◌≢◌, ℕ, zero, suc, ◌-◌, ◌<◌, Bool, true, false, true≢false, ◌||◌, ◌⊎◌, inl, inr, if◌then◌else◌, List, [], ◌∷◌, ◌++◌, refl, sym, ap, subst, ◌∙◌, arith, option_map, Some, None, find, slice_get, slice_set, Contains, list_any, Option, Contains-append_left, Contains-append_right, first_of, Call, Caller, Event, Rang, Entry, Refusal, Done, Refused, Part, Shape, Irqfd, TriggerWord, is_port, written, ticked, tick_injects, has_trigger, rung_by, Board, part_of, with_part, Routing, routing_of_registry, trigger_of, Plan, put, tell, reply, ◌>>◌, Wishes, Outcome, run, range_reasons, write_reasons, is_trigger, is_ioapic_address, is_lapic_address, unless_refused, write, pair_write, ioapic_store, lapic_store, port_out, store, ring_counter, rung, ring, number_of, does_publish, publishes_unless, would_publish, plan_on, outcome_of, with_counts, Step, opening, Leads, board_after, Space, Point, board_at, board_left, IsLegal, OfLegalHistories, rung_on, IsRefusedAlone, MakesTrigger, ChangesCountAlone, SignalsNothing, RingsAlone, SignalsNoMore, EndedSignalsNoMore, NoSignalOfDeassignedTrigger, or_neither}
+use Rattle.board_laws.proofs.Basics.{routing_on, last_is_one, ◌≡◌, ◌≢◌, ℕ, zero, suc, ◌-◌, ◌<◌, Bool, true, false, true≢false, ◌||◌, ◌⊎◌, inl, inr, if◌then◌else◌, List, [], ◌∷◌, ◌++◌, refl, sym, ap, subst, ◌∙◌, arith, option_map, Some, None, find, slice_get, slice_set, Contains, list_any, Option, Contains-append_left, Contains-append_right, first_of, Call, Caller, Event, Rang, Entry, Refusal, Done, Refused, Part, Shape, Irqfd, TriggerWord, is_port, written, ticked, tick_injects, has_trigger, rung_by, Board, part_of, with_part, Routing, routing_of_registry, trigger_of, Plan, put, tell, reply, ◌>>◌, Wishes, Outcome, run, range_reasons, write_reasons, is_trigger, is_ioapic_address, is_lapic_address, unless_refused, write, pair_write, ioapic_store, lapic_store, port_out, store, ring_counter, rung, ring, number_of, does_publish, publishes_unless, would_publish, plan_on, outcome_of, with_counts, Step, opening, Leads, board_after, Space, Point, board_at, board_left, IsLegal, OfLegalHistories, rung_on, IsRefusedAlone, MakesTrigger, ChangesCountAlone, SignalsNothing, RingsAlone, SignalsNoMore, EndedSignalsNoMore, NoSignalOfDeassignedTrigger, or_neither}
 use Rattle.board_laws.proofs.Points.{split, kept, before_point, step_at, at_points}
 use Rattle.board_laws.proofs.ConservingAcks.{or_right, allows, Allowed, quiet_conserving}
 use Rattle.board_laws.proofs.ConservingCalls.{Lets, rung_quiet, call_keeps, tick_keeps}
@@ -63,9 +63,6 @@ changes_counted counter t b o h = record { parts = λ q ne. same t q ∙ h.parts
     same t q = grind arith
 
 module _ (counter : ℕ) (b : Board) (ws : Wishes) where
-  abbrev routing : Routing
-  routing = routing_of_registry b.registry b.shape.tick
-
   -- a call that is refused
   unless_plainly : (refusal : Option Refusal) (plan : Plan (Unit {0})) → Plainly counter b (run plan b ws) → Plainly counter b (run (unless_refused refusal plan) b ws)
   unless_plainly None plan h = h
@@ -74,7 +71,7 @@ module _ (counter : ℕ) (b : Board) (ws : Wishes) where
   -- ---- a guest write that rings it
 
   -- what holds of the outcome of the ring
-  module _ (IsRung : Outcome (Unit {0}) → Type 0) (is_rung : IsRung (run (rung routing b.shape (Some counter)) b ws)) where
+  module _ (IsRung : Outcome (Unit {0}) → Type 0) (is_rung : IsRung (run (rung (routing_on b) b.shape (Some counter)) b ws)) where
     -- a plan is refused, or it rings the counter
     abbrev pub RefusesOrRings : Plan (Unit {0}) → Type 0
     RefusesOrRings plan = Refuses b (run plan b ws) ⊎ IsRung (run plan b ws)
@@ -83,41 +80,41 @@ module _ (counter : ℕ) (b : Board) (ws : Wishes) where
     unless_rings None plan h = h
     unless_rings (Some refusal) plan h = inl (record { refusal = refusal; told = refl; answers = refl; same = refl })
 
-    rung_rings : (k : Option ℕ) → k ≡ Some counter → RefusesOrRings (rung routing b.shape k)
-    rung_rings k is = subst (λ (k : Option ℕ). RefusesOrRings (rung routing b.shape k)) (sym is) (inr is_rung)
+    rung_rings : (k : Option ℕ) → k ≡ Some counter → RefusesOrRings (rung (routing_on b) b.shape k)
+    rung_rings k is = subst (λ (k : Option ℕ). RefusesOrRings (rung (routing_on b) b.shape k)) (sym is) (inr is_rung)
 
     -- a write to a port
     port_rings : (t : Bool) (port len value : ℕ) → (if t then None else rung_by b.registry.ioevents Space.Port port len value) ≡ Some counter
-        → RefusesOrRings (if t then pair_write routing b.shape port len value else ring routing b.shape Space.Port port len value)
+        → RefusesOrRings (if t then pair_write (routing_on b) b.shape port len value else ring (routing_on b) b.shape Space.Port port len value)
     port_rings true port len value is = cc
     port_rings false port len value is = rung_rings (rung_by b.registry.ioevents Space.Port port len value) is
 
     -- a store to memory
     store_rings : (t u : Bool) (n address len value : ℕ) → (if t || u then None else rung_by b.registry.ioevents Space.Memory address len value) ≡ Some counter
-        → RefusesOrRings (if t then ioapic_store b.shape (address - 0xfec00000) len value else if u then lapic_store routing b.shape n (address - 0xfee00000) len value else ring routing b.shape Space.Memory address len value)
+        → RefusesOrRings (if t then ioapic_store b.shape (address - 0xfec00000) len value else if u then lapic_store (routing_on b) b.shape n (address - 0xfee00000) len value else ring (routing_on b) b.shape Space.Memory address len value)
     store_rings true u n address len value is = cc
     store_rings false true n address len value is = cc
     store_rings false false n address len value is = rung_rings (rung_by b.registry.ioevents Space.Memory address len value) is
 
     pub call_rings : (caller : Caller) (call : Call) → rung_on b call ≡ Some counter → RefusesOrRings (plan_on b caller call)
-    call_rings caller (Call.PortOut port len value) is = unless_rings (first_of (range_reasons b.shape (Call.PortOut port len value))) (port_out routing b.shape port len value) (port_rings (is_port port) port len value is)
-    call_rings caller (Call.Store address len value) is = unless_rings (first_of (range_reasons b.shape (Call.Store address len value))) (store routing b.shape (number_of caller) address len value) (store_rings (is_ioapic_address address) (is_lapic_address address) (number_of caller) address len value is)
+    call_rings caller (Call.PortOut port len value) is = unless_rings (first_of (range_reasons b.shape (Call.PortOut port len value))) (port_out (routing_on b) b.shape port len value) (port_rings (is_port port) port len value is)
+    call_rings caller (Call.Store address len value) is = unless_rings (first_of (range_reasons b.shape (Call.Store address len value))) (store (routing_on b) b.shape (number_of caller) address len value) (store_rings (is_ioapic_address address) (is_lapic_address address) (number_of caller) address len value is)
     call_rings caller _ is = cc
 
   module _ (off : is_trigger b.registry counter ≡ false) where
     -- the counter triggers nothing
-    no_trigger : routing.trigger counter ≡ None
+    no_trigger : (routing_on b).trigger counter ≡ None
     no_trigger = ap (option_map trigger_of) (none_found (has_trigger counter) b.registry.irqfds off)
 
     -- a write adds to its count, or is refused
     write_plainly : (caller : Caller) (n : ℕ) → Plainly counter b (run (plan_on b caller (Call.Write counter n)) b ws)
-    write_plainly caller n = unless_plainly (first_of (range_reasons b.shape (Call.Write counter n))) (write routing b.shape (routing.trigger counter) counter n)
-        (subst (λ (trigger : Option TriggerWord). Plainly counter b (run (write routing b.shape trigger counter n) b ws)) (sym no_trigger)
+    write_plainly caller n = unless_plainly (first_of (range_reasons b.shape (Call.Write counter n))) (write (routing_on b) b.shape ((routing_on b).trigger counter) counter n)
+        (subst (λ (trigger : Option TriggerWord). Plainly counter b (run (write (routing_on b) b.shape trigger counter n) b ws)) (sym no_trigger)
         (unless_plainly (first_of (write_reasons b.counters counter n)) (put Part.Counters (written b.counters counter n) (reply Done))
         (record { told = refl; answers = inl refl; changes = changes_count counter _ b })))
 
-    own_rings : Rings counter b (run (rung routing b.shape (Some counter)) b ws)
-    own_rings = subst (λ (trigger : Option TriggerWord). Rings counter b (run (tell (Rang counter) (ring_counter routing b.shape counter trigger >> reply Done)) b ws)) (sym no_trigger)
+    own_rings : Rings counter b (run (rung (routing_on b) b.shape (Some counter)) b ws)
+    own_rings = subst (λ (trigger : Option TriggerWord). Rings counter b (run (tell (Rang counter) (ring_counter (routing_on b) b.shape counter trigger >> reply Done)) b ws)) (sym no_trigger)
         (record { told = refl; answers = refl; changes = changes_count counter _ b })
 
   -- ---- what tells that it rang
@@ -138,20 +135,20 @@ module _ (counter : ℕ) (b : Board) (ws : Wishes) where
     | inr later ↦ none_rang xs allowed.1 later
   ]
 
-  rung_tells : (k : Option ℕ) → TellsOnly (k ≡ Some counter) (rung routing b.shape k)
+  rung_tells : (k : Option ℕ) → TellsOnly (k ≡ Some counter) (rung (routing_on b) b.shape k)
   rung_tells None rang = absurd (no_member (Rang counter) rang)
   rung_tells (Some k) rang = elim (first_or_later (Rang k) (Rang counter) (run after b ws).log.events rang) [
     | inl is ↦ let same : k ≡ counter = cc in ap Some same
-    | inr later ↦ absurd (none_rang (run after b ws).log.events (quiet_conserving b.shape.tick false (λ _. true) after (rung_quiet (λ _. true) routing b.shape k (λ _. refl)) b ws).allowed later)
+    | inr later ↦ absurd (none_rang (run after b ws).log.events (quiet_conserving b.shape.tick false (λ _. true) after (rung_quiet (λ _. true) (routing_on b) b.shape k (λ _. refl)) b ws).allowed later)
   ]
     where
       after : Plan (Unit {0})
-      after = ring_counter routing b.shape k (routing.trigger k) >> reply Done
+      after = ring_counter (routing_on b) b.shape k ((routing_on b).trigger k) >> reply Done
 
   module _ (caller : Caller) where
     -- a call that needs ring nothing
     silent : (P : Type 0) (call : Call) → Lets false (λ _. true) call → TellsOnly P (plan_on b caller call)
-    silent P call lets rang = absurd (none_rang (run (plan_on b caller call) b ws).log.events (call_keeps routing b.shape false (λ _. true) caller call lets b ws).allowed rang)
+    silent P call lets rang = absurd (none_rang (run (plan_on b caller call) b ws).log.events (call_keeps (routing_on b) b.shape false (λ _. true) caller call lets b ws).allowed rang)
 
     port_tells : (port len value : ℕ) → TellsOnly (rung_on b (Call.PortOut port len value) ≡ Some counter) (plan_on b caller (Call.PortOut port len value))
     port_tells port len value = by_port (is_port port) refl
@@ -160,12 +157,12 @@ module _ (counter : ℕ) (b : Board) (ws : Wishes) where
         rings = rung_by b.registry.ioevents Space.Port port len value
 
         chip : Bool → Plan (Unit {0})
-        chip t = unless_refused (first_of (range_reasons b.shape (Call.PortOut port len value))) (if t then pair_write routing b.shape port len value else ring routing b.shape Space.Port port len value)
+        chip t = unless_refused (first_of (range_reasons b.shape (Call.PortOut port len value))) (if t then pair_write (routing_on b) b.shape port len value else ring (routing_on b) b.shape Space.Port port len value)
 
         by_port : (t : Bool) → is_port port ≡ t → TellsOnly (rung_on b (Call.PortOut port len value) ≡ Some counter) (plan_on b caller (Call.PortOut port len value))
         by_port true is = silent (rung_on b (Call.PortOut port len value) ≡ Some counter) (Call.PortOut port len value) (inl is)
         by_port false is = subst (λ (t : Bool). TellsOnly ((if t then None else rings) ≡ Some counter) (chip t)) (sym is)
-            (unless_tells (rings ≡ Some counter) (first_of (range_reasons b.shape (Call.PortOut port len value))) (ring routing b.shape Space.Port port len value) (rung_tells rings))
+            (unless_tells (rings ≡ Some counter) (first_of (range_reasons b.shape (Call.PortOut port len value))) (ring (routing_on b) b.shape Space.Port port len value) (rung_tells rings))
 
     store_tells : (address len value : ℕ) → TellsOnly (rung_on b (Call.Store address len value) ≡ Some counter) (plan_on b caller (Call.Store address len value))
     store_tells address len value = by_address (is_ioapic_address address) (is_lapic_address address) refl refl
@@ -175,17 +172,17 @@ module _ (counter : ℕ) (b : Board) (ws : Wishes) where
 
         chip : Bool → Bool → Plan (Unit {0})
         chip t u = unless_refused (first_of (range_reasons b.shape (Call.Store address len value)))
-            (if t then ioapic_store b.shape (address - 0xfec00000) len value else if u then lapic_store routing b.shape (number_of caller) (address - 0xfee00000) len value else ring routing b.shape Space.Memory address len value)
+            (if t then ioapic_store b.shape (address - 0xfec00000) len value else if u then lapic_store (routing_on b) b.shape (number_of caller) (address - 0xfee00000) len value else ring (routing_on b) b.shape Space.Memory address len value)
 
         by_address : (t u : Bool) → is_ioapic_address address ≡ t → is_lapic_address address ≡ u → TellsOnly (rung_on b (Call.Store address len value) ≡ Some counter) (plan_on b caller (Call.Store address len value))
         by_address true u is at = silent (rung_on b (Call.Store address len value) ≡ Some counter) (Call.Store address len value) (inl (ap (λ t. t || is_lapic_address address) is))
         by_address false true is at = silent (rung_on b (Call.Store address len value) ≡ Some counter) (Call.Store address len value) (inl (or_right (is_ioapic_address address) (is_lapic_address address) at))
         by_address false false is at = subst (λ (x : Bool × Bool). TellsOnly ((if x.0 || x.1 then None else rings) ≡ Some counter) (chip x.0 x.1)) (λ i. (sym is i, sym at i))
-            (unless_tells (rings ≡ Some counter) (first_of (range_reasons b.shape (Call.Store address len value))) (ring routing b.shape Space.Memory address len value) (rung_tells rings))
+            (unless_tells (rings ≡ Some counter) (first_of (range_reasons b.shape (Call.Store address len value))) (ring (routing_on b) b.shape Space.Memory address len value) (rung_tells rings))
 
     tick_silent : (P : Type 0) → TellsOnly P (plan_on b caller Call.Tick)
     tick_silent P rang =
-        absurd (none_rang (run (plan_on b caller Call.Tick) b ws).log.events (tick_keeps routing b.shape false (λ _. true) (ticked b.tick) (tick_injects b.tick) (with_part b Part.Tick (ticked b.tick)) ws).allowed rang)
+        absurd (none_rang (run (plan_on b caller Call.Tick) b ws).log.events (tick_keeps (routing_on b) b.shape false (λ _. true) (ticked b.tick) (tick_injects b.tick) (with_part b Part.Tick (ticked b.tick)) ws).allowed rang)
 
     -- whatever the call is
     pub call_tells : (call : Call) → TellsOnly (rung_on b call ≡ Some counter) (plan_on b caller call)

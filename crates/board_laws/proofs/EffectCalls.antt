@@ -1,5 +1,5 @@
 -- A call that is answered with a status says what its status tells, and one without effect leaves the requests.
-use Rattle.board_laws.proofs.Basics.{Holds, ended, after, changed, Signals, accept_pin_holds, let_go_holds, ◌≡◌, ℕ, Bool, true, false, nat_eq, if◌then◌else◌, ◌⊎◌, inl, inr, List, [], ◌∷◌, option_map, refl, sym, ap, ◌∙◌, subst, true≢false, Some, None, Option, first_of, Call, Caller, MsiWord, Source, Line, Resample, Targets, Refusal, Reply, Signal, Done, Lapic, Masked, Status, Raise, TickState, TriggerWord, raise_of, pin_outcome, message_in, ticked, tick_injects, tick_injected, Board, part_of, PicPart, IoapicPart, pair_of, ioapic_of, Routing, routing_of_registry, nobody, TargetAnswer, stood_already, no_effect, status_of, About, the_reply, done, change, reply, ◌>>◌, Wishes, Outcome, run, send, pic_raised, pic_answer, ioapic_raised, is_accepted, accept_pin, ioapic_answered, raise_other, raise, let_go, let_go_after, lowered_status, lower, inject, HasProcessors, range_reasons, unless_refused, source_of, trigger_written, write, tick_or_hold, number_of, plan_in_range, TickSource as Tick, Lowered, plan_on, outcome_of, with_counts, would_publish, Part, message_target, signal_targets, message_raised, pic_answer_on, raise_answer_on, IsSaidOf, is_without_effect, ChangesNoRequest, CoalescedAndIgnoredChangeNoRequest}
+use Rattle.board_laws.proofs.Basics.{routing_on, Holds, ended, after, changed, Signals, accept_pin_holds, let_go_holds, ◌≡◌, ℕ, Bool, true, false, nat_eq, if◌then◌else◌, ◌⊎◌, inl, inr, List, [], ◌∷◌, option_map, refl, sym, ap, ◌∙◌, subst, true≢false, Some, None, Option, first_of, Call, Caller, MsiWord, Source, Line, Resample, Targets, Refusal, Reply, Signal, Done, Lapic, Masked, Status, Raise, TickState, TriggerWord, raise_of, pin_outcome, message_in, ticked, tick_injects, tick_injected, Board, part_of, PicPart, IoapicPart, pair_of, ioapic_of, Routing, routing_of_registry, nobody, TargetAnswer, stood_already, no_effect, status_of, About, the_reply, done, change, reply, ◌>>◌, Wishes, Outcome, run, send, pic_raised, pic_answer, ioapic_raised, is_accepted, accept_pin, ioapic_answered, raise_other, raise, let_go, let_go_after, lowered_status, lower, inject, HasProcessors, range_reasons, unless_refused, source_of, trigger_written, write, tick_or_hold, number_of, plan_in_range, TickSource as Tick, Lowered, plan_on, outcome_of, with_counts, would_publish, Part, message_target, signal_targets, message_raised, pic_answer_on, raise_answer_on, IsSaidOf, is_without_effect, ChangesNoRequest, CoalescedAndIgnoredChangeNoRequest}
 use Rattle.board_laws.proofs.EffectStood.{raise_stood, raised_stood}
 use Rattle.board_laws.proofs.EffectMute.{mute, count_mute, call_mute, some_status}
 use Rattle.board_laws.proofs.EffectSends.{spared, Says, says_before, says_after, shown_says, send_says}
@@ -83,28 +83,25 @@ module _ (b : Board) (stand : HasProcessors b b.shape.cpus) where
 
   -- ---- each call
 
-  abbrev routing : Routing
-  routing = routing_of_registry b.registry b.shape.tick
-
   -- a call has targets of which its status is said
   record Answered (call : Call) (o : Outcome (Unit {0})) : Type 0 where
     pub targets : Targets
-    pub signalled : signal_targets routing b.shape call ≡ Some targets
+    pub signalled : signal_targets (routing_on b) b.shape call ≡ Some targets
     pub says : Says b targets o
 
   -- or it answers no status
   abbrev Judged : Call → Outcome (Unit {0}) → Type 0
   Judged call o = Answered call o ⊎ (some_status o.log.answers ≡ false)
 
-  line_judged : (gsi line : ℕ) (high : Bool) (n : ℕ) (ws : Wishes) → Answered (Call.Line gsi line high) (run (plan_in_range routing b.shape n (Call.Line gsi line high)) b ws)
+  line_judged : (gsi line : ℕ) (high : Bool) (n : ℕ) (ws : Wishes) → Answered (Call.Line gsi line high) (run (plan_in_range (routing_on b) b.shape n (Call.Line gsi line high)) b ws)
   line_judged gsi line true n ws = record {
-    targets = routing.targets gsi;
+    targets = (routing_on b).targets gsi;
     signalled = refl;
-    says = says_before b (routing.targets gsi) (λ _. done tt) (raise b.shape.cpus (routing.targets gsi) (Line line) shown) b ws (raise_says b.tick (Line line) ws (routing.targets gsi)) (λ _ c vs fit. (refl, λ same. same));
+    says = says_before b ((routing_on b).targets gsi) (λ _. done tt) (raise b.shape.cpus ((routing_on b).targets gsi) (Line line) shown) b ws (raise_says b.tick (Line line) ws ((routing_on b).targets gsi)) (λ _ c vs fit. (refl, λ same. same));
   }
-  line_judged gsi line false n ws = record { targets = routing.targets gsi; signalled = refl; says = lower_says (routing.targets gsi) (Line line) ws }
+  line_judged gsi line false n ws = record { targets = (routing_on b).targets gsi; signalled = refl; says = lower_says ((routing_on b).targets gsi) (Line line) ws }
 
-  message_judged : (address payload n : ℕ) (ws : Wishes) → Answered (Call.Msi address payload) (run (plan_in_range routing b.shape n (Call.Msi address payload)) b ws)
+  message_judged : (address payload n : ℕ) (ws : Wishes) → Answered (Call.Msi address payload) (run (plan_in_range (routing_on b) b.shape n (Call.Msi address payload)) b ws)
   message_judged address payload n ws = record {
     targets = message_target address payload;
     signalled = refl;
@@ -112,38 +109,38 @@ module _ (b : Board) (stand : HasProcessors b b.shape.cpus) where
         (send_says b stand (message_target address payload) b.tick b.pic b.ioapic (message_in address payload) refl refl ws) (λ _ c vs fit. (refl, λ same. same));
   }
 
-  write_judged : (counter count : ℕ) (trigger : Option TriggerWord) → routing.trigger counter ≡ trigger → (ws : Wishes) → Judged (Call.Write counter count) (run (write routing b.shape trigger counter count) b ws)
-  write_judged counter count None is ws = inr (count_mute routing b.shape counter count b ws tt)
-  write_judged counter count (Some trigger) is ws = elim (nat_eq count 0) as (λ t. Judged (Call.Write counter count) (run (if t then reply Done else trigger_written routing b.shape trigger) b ws)) [
+  write_judged : (counter count : ℕ) (trigger : Option TriggerWord) → (routing_on b).trigger counter ≡ trigger → (ws : Wishes) → Judged (Call.Write counter count) (run (write (routing_on b) b.shape trigger counter count) b ws)
+  write_judged counter count None is ws = inr (count_mute (routing_on b) b.shape counter count b ws tt)
+  write_judged counter count (Some trigger) is ws = elim (nat_eq count 0) as (λ t. Judged (Call.Write counter count) (run (if t then reply Done else trigger_written (routing_on b) b.shape trigger) b ws)) [
     | true ↦ inr refl
     | false ↦ inl (record {
-      targets = routing.targets trigger.gsi;
-      signalled = ap (option_map (λ (t : TriggerWord). routing.targets t.gsi)) is;
-      says = says_before b (routing.targets trigger.gsi) (λ _. done tt) (inject b.shape.cpus (routing.targets trigger.gsi) (source_of trigger.resample) shown) b ws
-          (inject_says b.tick (source_of trigger.resample) ws (routing.targets trigger.gsi)) (λ _ c vs fit. (refl, λ same. same));
+      targets = (routing_on b).targets trigger.gsi;
+      signalled = ap (option_map (λ (t : TriggerWord). (routing_on b).targets t.gsi)) is;
+      says = says_before b ((routing_on b).targets trigger.gsi) (λ _. done tt) (inject b.shape.cpus ((routing_on b).targets trigger.gsi) (source_of trigger.resample) shown) b ws
+          (inject_says b.tick (source_of trigger.resample) ws ((routing_on b).targets trigger.gsi)) (λ _ c vs fit. (refl, λ same. same));
     })
   ]
 
-  tick_judged : (injects : Bool) (ws : Wishes) → Judged Call.Tick (run (tick_or_hold routing b.shape (ticked b.tick) injects) (record b { tick = ticked b.tick }) ws)
+  tick_judged : (injects : Bool) (ws : Wishes) → Judged Call.Tick (run (tick_or_hold (routing_on b) b.shape (ticked b.tick) injects) (record b { tick = ticked b.tick }) ws)
   tick_judged true ws = inl (record {
-    targets = routing.targets b.shape.tick;
+    targets = (routing_on b).targets b.shape.tick;
     signalled = refl;
-    says = says_before b (routing.targets b.shape.tick) (λ status. change Part.Tick (λ tick. tick_injected tick status)) (inject b.shape.cpus (routing.targets b.shape.tick) Tick shown) (record b { tick = ticked b.tick }) ws
-        (inject_says (ticked b.tick) Tick ws (routing.targets b.shape.tick)) (λ status. changed (spared b) Part.Tick (λ tick. tick_injected tick status) (λ c fit. tt));
+    says = says_before b ((routing_on b).targets b.shape.tick) (λ status. change Part.Tick (λ tick. tick_injected tick status)) (inject b.shape.cpus ((routing_on b).targets b.shape.tick) Tick shown) (record b { tick = ticked b.tick }) ws
+        (inject_says (ticked b.tick) Tick ws ((routing_on b).targets b.shape.tick)) (λ status. changed (spared b) Part.Tick (λ tick. tick_injected tick status) (λ c fit. tt));
   })
   tick_judged false ws = inr refl
 
-  range_judged : (n : ℕ) (call : Call) (ws : Wishes) → Judged call (run (plan_in_range routing b.shape n call) b ws)
+  range_judged : (n : ℕ) (call : Call) (ws : Wishes) → Judged call (run (plan_in_range (routing_on b) b.shape n call) b ws)
   range_judged n (Call.Line gsi line high) ws = inl (line_judged gsi line high n ws)
   range_judged n (Call.Msi address payload) ws = inl (message_judged address payload n ws)
-  range_judged n (Call.Write counter count) ws = write_judged counter count (routing.trigger counter) refl ws
+  range_judged n (Call.Write counter count) ws = write_judged counter count ((routing_on b).trigger counter) refl ws
   range_judged n Call.Tick ws = tick_judged (tick_injects b.tick) ws
-  range_judged n call ws = inr ((call_mute routing b.shape n call refl) b ws tt)
+  range_judged n call ws = inr ((call_mute (routing_on b) b.shape n call refl) b ws tt)
 
   call_judged : (caller : Caller) (call : Call) (ws : Wishes) → Judged call (run (plan_on b caller call) b ws)
   call_judged caller call ws = of_refusal (first_of (range_reasons b.shape call))
     where
-      of_refusal : (refusal : Option Refusal) → Judged call (run (unless_refused refusal (plan_in_range routing b.shape (number_of caller) call)) b ws)
+      of_refusal : (refusal : Option Refusal) → Judged call (run (unless_refused refusal (plan_in_range (routing_on b) b.shape (number_of caller) call)) b ws)
       of_refusal None = range_judged (number_of caller) call ws
       of_refusal (Some refusal) = inr refl
 

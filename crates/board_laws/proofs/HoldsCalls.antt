@@ -1,5 +1,5 @@
 -- In every legal history Resample holds a pin only where the pin's GSI has a resampler.
-use Rattle.board_laws.proofs.Basics.{Walk, Holds, after, MayRaise, is_plain, inject_count_holds, plain_holds, walk, shows, signals_kept, KeptBySignals, KeptByCalls, tick_kept, calls_kept, arith, ◌≡◌, ℕ, Bool, true, false, not, ◌||◌, nat_eq, nat_lt, List, [], ◌∷◌, ◌++◌, Some, None, refl, sym, ap, subst, ◌∙◌, true≢false, IsTrue, AllPairs, is_some, slice_index, contains-empty, Option, All-weaker, AllPairs-filter, first_of, Call, Caller, Row, Pin, Source, Resample, Line, TickSource, Entry, Refusal, Busy, RoleClash, Done, Removed, Shape, Irqfd, TickState, PinHolds, hold, hold_cmp, table_of, targets_of, refusal_of, gsi_of, default_rows, ticked, tick_injects, taken, Board, RegistryPart, Routing, routing_of_registry, injected, the_reply, Plan, reply, ◌>>◌, Wishes, run, is_signalled, resample_clashes, is_trigger, range_reasons, assign_reasons, attach_reasons, detach_reasons, watch_reasons, unwatch_reasons, unless_refused, source_of, inject_count, was_last_resampler, release, deassigned, kept_holds, tick_or_hold, number_of, io_row, plan_in_range, default_rows-kept, no_reason, HasResampler, ResamplersHold, would_publish, plan_on, outcome_of, with_counts, Step, opening, more_for, less_for, IsMade, irqfd_resamples, pic_resamples, ioapic_resamples, each_fails, pairs_push, line_is_not, tick_is_not, resamples_if, more_resampler, own_row, freed_run, without, kept_for, kept_resampler, freed_pic, freed_ioapic, OfLegalHistories, HoldsForResamplers, ResampleHoldsForResamplers, empty, named_row, without_row, with_row, has_trigger, has_resampler, is_named}
+use Rattle.board_laws.proofs.Basics.{routing_on, Walk, Holds, after, MayRaise, is_plain, inject_count_holds, plain_holds, walk, shows, signals_kept, KeptBySignals, KeptByCalls, tick_kept, calls_kept, arith, ◌≡◌, ℕ, Bool, true, false, not, ◌||◌, nat_eq, nat_lt, List, [], ◌∷◌, ◌++◌, Some, None, refl, sym, ap, subst, ◌∙◌, true≢false, IsTrue, AllPairs, is_some, slice_index, contains-empty, Option, All-weaker, AllPairs-filter, first_of, Call, Caller, Row, Pin, Source, Resample, Line, TickSource, Entry, Refusal, Busy, RoleClash, Done, Removed, Shape, Irqfd, TickState, PinHolds, hold, hold_cmp, table_of, targets_of, refusal_of, gsi_of, default_rows, ticked, tick_injects, taken, Board, RegistryPart, Routing, routing_of_registry, injected, the_reply, Plan, reply, ◌>>◌, Wishes, run, is_signalled, resample_clashes, is_trigger, range_reasons, assign_reasons, attach_reasons, detach_reasons, watch_reasons, unwatch_reasons, unless_refused, source_of, inject_count, was_last_resampler, release, deassigned, kept_holds, tick_or_hold, number_of, io_row, plan_in_range, default_rows-kept, no_reason, HasResampler, ResamplersHold, would_publish, plan_on, outcome_of, with_counts, Step, opening, more_for, less_for, IsMade, irqfd_resamples, pic_resamples, ioapic_resamples, each_fails, pairs_push, line_is_not, tick_is_not, resamples_if, more_resampler, own_row, freed_run, without, kept_for, kept_resampler, freed_pic, freed_ioapic, OfLegalHistories, HoldsForResamplers, ResampleHoldsForResamplers, empty, named_row, without_row, with_row, has_trigger, has_resampler, is_named}
 use Rattle.board_laws.proofs.Points.{of_boards}
 
 -- ---- the calls that leave the registry
@@ -94,9 +94,6 @@ module _ (b : Board) (ws : Wishes) (s : Stands b) where
   abbrev r : RegistryPart
   r = b.registry
 
-  abbrev routes : Routing
-  routes = routing_of_registry b.registry b.shape.tick
-
   -- a call that leaves the registry
   kept : (m : Plan (Unit {0})) → Holds (held r s.made) m → Stands (run m b ws).board
   kept m h = stands_after r (run m b ws).board s.made s.apart (h b ws s.held)
@@ -113,7 +110,7 @@ module _ (b : Board) (ws : Wishes) (s : Stands b) where
     held = moved b t s.held (λ pin h. record { gsi = h.gsi; named = ap (λ q. gsi_of q pin) table ∙ h.named; resamples = ap (λ (l : List Irqfd). has_resampler l h.gsi) rows ∙ h.resamples });
   }
 
-  assigned_stands : (trigger gsi : ℕ) (resample : Option ℕ) → first_of (assign_reasons r trigger resample) ≡ None → Stands (run (inject_count routes b.shape gsi resample (nat_lt 0 (slice_index b.counters trigger)) >> reply Done) (record b { registry = record r { irqfds = with_row r.irqfds trigger gsi resample }; counters = taken b.counters trigger }) ws).board
+  assigned_stands : (trigger gsi : ℕ) (resample : Option ℕ) → first_of (assign_reasons r trigger resample) ≡ None → Stands (run (inject_count (routing_on b) b.shape gsi resample (nat_lt 0 (slice_index b.counters trigger)) >> reply Done) (record b { registry = record r { irqfds = with_row r.irqfds trigger gsi resample }; counters = taken b.counters trigger }) ws).board
   assigned_stands trigger gsi resample none = by_count (nat_lt 0 (slice_index b.counters trigger))
     where
       row : Irqfd
@@ -135,16 +132,16 @@ module _ (b : Board) (ws : Wishes) (s : Stands b) where
       fires : MayRaise (held t s.made) (targets_of t.table gsi) (source_of (is_some resample))
       fires = may t s.made gsi (source_of (is_some resample)) (λ is. own_row r row (resamples_if (is_some resample) is))
 
-      by_count : (injects : Bool) → Stands (run (inject_count routes b.shape gsi resample injects >> reply Done) during ws).board
-      by_count injects = stands_after t (run (inject_count routes b.shape gsi resample injects >> reply Done) during ws).board s.made apart
-          (after (held t s.made) (inject_count routes b.shape gsi resample injects) (reply Done)
-          (inject_count_holds (held t s.made) routes b.shape (signals_kept (HeldWith t) (held_signals t s.made)) gsi resample fires (λ pic. shows (HeldWith t) (held_signals t s.made) (injected gsi pic)) injects)
+      by_count : (injects : Bool) → Stands (run (inject_count (routing_on b) b.shape gsi resample injects >> reply Done) during ws).board
+      by_count injects = stands_after t (run (inject_count (routing_on b) b.shape gsi resample injects >> reply Done) during ws).board s.made apart
+          (after (held t s.made) (inject_count (routing_on b) b.shape gsi resample injects) (reply Done)
+          (inject_count_holds (held t s.made) (routing_on b) b.shape (signals_kept (HeldWith t) (held_signals t s.made)) gsi resample fires (λ pic. shows (HeldWith t) (held_signals t s.made) (injected gsi pic)) injects)
           (λ c vs h. h) during ws now)
 
-  deassigned_stands : (trigger gsi : ℕ) (row : Option Irqfd) → named_row r.irqfds trigger gsi ≡ row → Stands (run (deassigned routes r trigger gsi row) b ws).board
+  deassigned_stands : (trigger gsi : ℕ) (row : Option Irqfd) → named_row r.irqfds trigger gsi ≡ row → Stands (run (deassigned (routing_on b) r trigger gsi row) b ws).board
   deassigned_stands trigger gsi None is = s
   deassigned_stands trigger gsi (Some row) is =
-      elim (was_last_resampler row (without_row r.irqfds trigger gsi)) as (λ t. was_last_resampler row (without_row r.irqfds trigger gsi) ≡ t → Stands (run (release routes gsi t >> reply (Removed 1)) (record b { registry = left }) ws).board) [
+      elim (was_last_resampler row (without_row r.irqfds trigger gsi)) as (λ t. was_last_resampler row (without_row r.irqfds trigger gsi) ≡ t → Stands (run (release (routing_on b) gsi t >> reply (Removed 1)) (record b { registry = left }) ws).board) [
         | true ↦ λ _. subst Stands (sym (freed_run (targets_of r.table gsi).pic (targets_of r.table gsi).ioapic (record b { registry = left }) ws))
             (record { made = s.made; apart = apart; held = record { registry = refl; pic = freed_pic r trigger gsi s.made b.pic.holds s.held.pic; ioapic = freed_ioapic r trigger gsi s.made b.ioapic.holds s.held.ioapic } })
         | false ↦ λ last. record { made = s.made; apart = apart; held = moved b left s.held (kept_resampler r trigger gsi row s.apart is last) }
@@ -167,7 +164,7 @@ module _ (b : Board) (ws : Wishes) (s : Stands b) where
     held = record { registry = refl; pic = kept_for r rows b.pic.holds Pin.Pic s.held.pic; ioapic = kept_for r rows b.ioapic.holds Pin.Ioapic s.held.ioapic };
   }
 
-  in_range : (n : ℕ) (call : Call) → first_of (range_reasons b.shape call) ≡ None → Stands (run (plan_in_range routes b.shape n call) b ws).board
+  in_range : (n : ℕ) (call : Call) → first_of (range_reasons b.shape call) ≡ None → Stands (run (plan_in_range (routing_on b) b.shape n call) b ws).board
   in_range n (Call.Assign trigger gsi resample) none = unless (first_of (assign_reasons r trigger resample)) _ (assigned_stands trigger gsi resample)
   in_range n (Call.Deassign trigger gsi) none = deassigned_stands trigger gsi (named_row r.irqfds trigger gsi) refl
   in_range n (Call.Reroute rows) none = rerouted_stands rows none
@@ -176,12 +173,12 @@ module _ (b : Board) (ws : Wishes) (s : Stands b) where
   in_range n (Call.Watch counter gsi) none = unless (first_of (watch_reasons r counter gsi)) _ (λ _. registered _ refl refl)
   in_range n (Call.Unwatch counter gsi) none = unless (first_of (unwatch_reasons r counter gsi)) _ (λ _. registered _ refl refl)
   in_range n Call.Tick none =
-      stands_after r (run (tick_or_hold routes b.shape (ticked b.tick) (tick_injects b.tick)) (record b { tick = ticked b.tick }) ws).board s.made s.apart
+      stands_after r (run (tick_or_hold (routing_on b) b.shape (ticked b.tick) (tick_injects b.tick)) (record b { tick = ticked b.tick }) ws).board s.made s.apart
       (tick_held r s.made b.shape (ticked b.tick) (tick_injects b.tick) (record b { tick = ticked b.tick }) ws (same refl refl refl s.held))
-  in_range n call none = kept (plan_in_range routes b.shape n call) (plain r s.made b.shape n call refl)
+  in_range n call none = kept (plan_in_range (routing_on b) b.shape n call) (plain r s.made b.shape n call refl)
 
   call_stands : (caller : Caller) (call : Call) → Stands (run (plan_on b caller call) b ws).board
-  call_stands caller call = unless (first_of (range_reasons b.shape call)) (plan_in_range routes b.shape (number_of caller) call) (in_range (number_of caller) call)
+  call_stands caller call = unless (first_of (range_reasons b.shape call)) (plan_in_range (routing_on b) b.shape (number_of caller) call) (in_range (number_of caller) call)
 
 -- ---- a history
 

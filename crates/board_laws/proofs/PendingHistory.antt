@@ -1,5 +1,5 @@
 -- Requests stay pending until they are taken, along every legal history.
-use Rattle.board_laws.proofs.Basics.{◌≡◌, ℕ, ◌+◌, Bool, true, false, All, ◌&&◌, ◌||◌, ◌⊎◌, inl, inr, List, [], ◌∷◌, ◌++◌, map, length, refl, sym, ap, subst, ◌∙◌, arith, slice_get, unwrap_or, list_any, is_allowed, first_of, Call, Caller, Entry, Message, Reply, Shape, LocalApic, power_on, Board, Routing, routing_of_registry, Sending, numbers_below, has_request_on, range_reasons, number_of, frame_stays, would_publish, plan_on, outcome_of, with_counts, Step, Leads, wishes_shown, next_board, Point, board_at, board_left, IsLegal, OfLegalHistories, sendings_of, takes_by, is_processor, is_ack, takes, IsPendingOrTaken, SendingStands, SendingsStand, RequestsStayPending, steps_are_followed, next_is, number_at, apics_many, apics_numbered}
+use Rattle.board_laws.proofs.Basics.{routing_on, ◌≡◌, ℕ, ◌+◌, Bool, true, false, All, ◌&&◌, ◌||◌, ◌⊎◌, inl, inr, List, [], ◌∷◌, ◌++◌, map, length, refl, sym, ap, subst, ◌∙◌, arith, slice_get, unwrap_or, list_any, is_allowed, first_of, Call, Caller, Entry, Message, Reply, Shape, LocalApic, power_on, Board, Routing, routing_of_registry, Sending, numbers_below, has_request_on, range_reasons, number_of, frame_stays, would_publish, plan_on, outcome_of, with_counts, Step, Leads, wishes_shown, next_board, Point, board_at, board_left, IsLegal, OfLegalHistories, sendings_of, takes_by, is_processor, is_ack, takes, IsPendingOrTaken, SendingStands, SendingsStand, RequestsStayPending, steps_are_followed, next_is, number_at, apics_many, apics_numbered}
 use Rattle.board_laws.proofs.Points.{step_at, after_point, holds_at, at_points}
 use Rattle.board_laws.proofs.PendingPlans.{or_later, has, at, Fine, IsMade, Good}
 use Rattle.board_laws.proofs.PendingCalls.{call_safe}
@@ -31,14 +31,11 @@ LosesNone b e apics =
 loses_none : (b : Board) (e : Entry) → Fine b.shape.cpus b.lapics → LosesNone b e (after_plan b e).lapics
 loses_none b e fine = of_ack (is_ack e.call) refl
   where
-    routing : Routing
-    routing = routing_of_registry b.registry b.shape.tick
-
     of_ack : (t : Bool) → is_ack e.call ≡ t → LosesNone b e (after_plan b e).lapics
-    of_ack false other = inl (call_safe routing b.shape (first_of (range_reasons b.shape e.call)) (number_of e.caller) e.call other b (wishes_shown e) fine)
+    of_ack false other = inl (call_safe (routing_on b) b.shape (first_of (range_reasons b.shape e.call)) (number_of e.caller) e.call other b (wishes_shown e) fine)
     of_ack true is =
         let ack : e.call ≡ Call.Ack = (grind (arith, is)) in
-        inr (ack, subst (λ (c : Call). TakingRun b.shape.cpus (number_of e.caller) (plan_on b e.caller c) b (wishes_shown e)) (sym ack) (next_taking routing b.shape (number_of e.caller) b (wishes_shown e) fine))
+        inr (ack, subst (λ (c : Call). TakingRun b.shape.cpus (number_of e.caller) (plan_on b e.caller c) b (wishes_shown e)) (sym ack) (next_taking (routing_on b) b.shape (number_of e.caller) b (wishes_shown e) fine))
 
 -- an entry leaves each request or takes it, and each of its sendings leaves a request at each processor that it reached
 record Passes (shape : Shape) (b : Board) (e : Entry) : Type 0 where

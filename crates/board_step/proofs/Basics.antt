@@ -189,3 +189,7 @@ pub use Rattle.std.specs.Prelude.{AllPairs, count_by, filter_map, find, ◌==◌
 pub use Rattle.std.specs.declared.option.Option.{Option}
 pub use Rattle.tick_reinject.specs.Ticks.{ack_injects, in_mode, is_ignored, tick_acked, tick_injected, tick_injects, ticked}
 pub use Rattle.tick_reinject.specs.declared.state.TickState.{TickState}
+
+-- the routing of a board
+abbrev pub routing_on : Board → Routing
+routing_on b = routing_of_registry b.registry b.shape.tick

@@ -1,5 +1,5 @@
 -- An Ack answers what is due.
-use Rattle.board_step.proofs.Basics.{◌≡◌, ℕ, ◌<◌, zero, suc, Bool, true, false, true≢false, ◌&&◌, if◌then◌else◌, List, [], ◌∷◌, ◌++◌, map, length, Some, None, refl, sym, ap, ◌∙◌, arith, IfSome, unwrap_or, Option, Ack, Cpu, Reply, Pic, Lapic, Pair, has_output, Cycle, cycle, Holds, LocalApic, power_on, giveable_of, Board, part_of, with_part, pair_of, with_pair, flat, Routing, routing_of_registry, Plan, reply, ◌>>◌, Wishes, Outcome, run, PairFits, acknowledge_each, cycle_pins, cycle_made, give, given_reply, hears_pair, give_of_pair, take_nmi, slice_get, is_some, option_map, pic_of, apic_in, run-bind, opening_pic, board_in, IsKept, given_due, due_by, due_in, IsDue, AnswersDue}
+use Rattle.board_step.proofs.Basics.{routing_on, ◌≡◌, ℕ, ◌<◌, zero, suc, Bool, true, false, true≢false, ◌&&◌, if◌then◌else◌, List, [], ◌∷◌, ◌++◌, map, length, Some, None, refl, sym, ap, ◌∙◌, arith, IfSome, unwrap_or, Option, Ack, Cpu, Reply, Pic, Lapic, Pair, has_output, Cycle, cycle, Holds, LocalApic, power_on, giveable_of, Board, part_of, with_part, pair_of, with_pair, flat, Routing, routing_of_registry, Plan, reply, ◌>>◌, Wishes, Outcome, run, PairFits, acknowledge_each, cycle_pins, cycle_made, give, given_reply, hears_pair, give_of_pair, take_nmi, slice_get, is_some, option_map, pic_of, apic_in, run-bind, opening_pic, board_in, IsKept, given_due, due_by, due_in, IsDue, AnswersDue}
 use Rattle.board_step.proofs.Basics.pic
 use Rattle.board_step.specs.declared.due.Due.{Due}
 use Rattle.board_step.specs.declared.due.Due.TheVariants as dues
@@ -14,9 +14,6 @@ last_alone (r ∷ []) q one = absurd (omega (arith, one))
 last_alone (r ∷ s ∷ rs) q one = absurd (omega (arith, one))
 
 module _ (b : Board) (n : ℕ) (ws : Wishes) where
-  abbrev routing : Routing
-  routing = routing_of_registry b.registry b.shape.tick
-
   abbrev apic : LocalApic
   apic = part_of b (Lapic n)
 
@@ -31,23 +28,23 @@ module _ (b : Board) (n : ℕ) (ws : Wishes) where
   gives_due : Answers (give n apic) (given_due (giveable_of apic))
   gives_due one = (given_reply (giveable_of apic), refl, given_is_due (giveable_of apic))
 
-  cycle_due : (c : Cycle) → Answers (cycle_made routing b.shape b.pic c (Reply.Extint c.vector)) dues.Extint
+  cycle_due : (c : Cycle) → Answers (cycle_made (routing_on b) b.shape b.pic c (Reply.Extint c.vector)) dues.Extint
   cycle_due c one =
-      let m = acknowledge_each routing b.shape (cycle_pins c.pins) in
+      let m = acknowledge_each (routing_on b) b.shape (cycle_pins c.pins) in
       let after = with_part b Pic (with_pair b.pic c.after) in
       let q = Reply.Extint c.vector in
       let sum : (run (m >> reply q) after ws).log.answers ≡ (run m after ws).log.answers ++ q ∷ [] = ap (λ (o : Outcome (Unit {0})). o.log.answers) (run-bind (λ _. reply q) m after ws) in
       (q, sum ∙ last_alone (run m after ws).log.answers q (sym (ap length sum) ∙ one), tt)
 
-  pair_due : (t : Bool) → Answers (if t then cycle_made routing b.shape b.pic (cycle (pair_of b.pic)) (Reply.Extint (cycle (pair_of b.pic)).vector) else give n apic) (if t then dues.Extint else given_due (giveable_of apic))
+  pair_due : (t : Bool) → Answers (if t then cycle_made (routing_on b) b.shape b.pic (cycle (pair_of b.pic)) (Reply.Extint (cycle (pair_of b.pic)).vector) else give n apic) (if t then dues.Extint else given_due (giveable_of apic))
   pair_due true = cycle_due (cycle (pair_of b.pic))
   pair_due false = gives_due
 
-  hears_due : (t : Bool) → Answers (if t then give_of_pair routing b.shape n apic else give n apic) (if t && has_output (pair_of b.pic) then dues.Extint else given_due (giveable_of apic))
+  hears_due : (t : Bool) → Answers (if t then give_of_pair (routing_on b) b.shape n apic else give n apic) (if t && has_output (pair_of b.pic) then dues.Extint else given_due (giveable_of apic))
   hears_due true = pair_due (has_output (pair_of b.pic))
   hears_due false = gives_due
 
-  next_due : (t : Bool) → Answers (if t then take_nmi n apic else if hears_pair n apic then give_of_pair routing b.shape n apic else give n apic) (if t then dues.Nmi else if hears_pair n apic && has_output (pair_of b.pic) then dues.Extint else given_due (giveable_of apic))
+  next_due : (t : Bool) → Answers (if t then take_nmi n apic else if hears_pair n apic then give_of_pair (routing_on b) b.shape n apic else give n apic) (if t then dues.Nmi else if hears_pair n apic && has_output (pair_of b.pic) then dues.Extint else given_due (giveable_of apic))
   next_due true one = (Reply.Nmi, refl, tt)
   next_due false one = hears_due (hears_pair n apic) one
 

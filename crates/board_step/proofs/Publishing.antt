@@ -1,5 +1,5 @@
 -- A step shows in its entry whether it is a publication; a publication reaches the registry; a step keeps the frame.
-use Rattle.board_step.proofs.Basics.{◌≡◌, ℕ, ◌+◌, Bool, true, false, not, ◌&&◌, if◌then◌else◌, cond, List, [], ◌∷◌, ◌++◌, length, Some, None, refl, sym, ap, ◌∙◌, arith, Option, Reason, first_of, Call, Caller, Refusal, Reply, Done, Removed, Refused, Nothing, Registry, Irqfd, Board, Routing, routing_of_registry, Plan, reply, ◌>>◌, Wishes, Outcome, run, of_acknowledge_each, range_reasons, unless_refused, inject_count, assigned, was_last_resampler, release, deassigned, number_of, plan_in_range, is_some, zero-add, count_by, sum_by-cons, SameFrame, run-bind, frame_stays, later_reasons, refusal_on as refusal_of, does_publish, publishes_unless, would_publish, plan_on, outcome_of, with_counts, counted, is_done, is_removed, did_publish, is_publication, reach, of_call, opening, StepsShowPublications, PublicationsReachTheRegistry, StepsKeepTheFrame, HistoriesKeepTheFrame, LegalHistoriesCount, spent_by, LimitsAreTold, words, WordsStayAlong, named_row, without_row}
+use Rattle.board_step.proofs.Basics.{routing_on, ◌≡◌, ℕ, ◌+◌, Bool, true, false, not, ◌&&◌, if◌then◌else◌, cond, List, [], ◌∷◌, ◌++◌, length, Some, None, refl, sym, ap, ◌∙◌, arith, Option, Reason, first_of, Call, Caller, Refusal, Reply, Done, Removed, Refused, Nothing, Registry, Irqfd, Board, Routing, routing_of_registry, Plan, reply, ◌>>◌, Wishes, Outcome, run, of_acknowledge_each, range_reasons, unless_refused, inject_count, assigned, was_last_resampler, release, deassigned, number_of, plan_in_range, is_some, zero-add, count_by, sum_by-cons, SameFrame, run-bind, frame_stays, later_reasons, refusal_on as refusal_of, does_publish, publishes_unless, would_publish, plan_on, outcome_of, with_counts, counted, is_done, is_removed, did_publish, is_publication, reach, of_call, opening, StepsShowPublications, PublicationsReachTheRegistry, StepsKeepTheFrame, HistoriesKeepTheFrame, LegalHistoriesCount, spent_by, LimitsAreTold, words, WordsStayAlong, named_row, without_row}
 use Rattle.board_step.proofs.Refusing.{refuses_first}
 use Rattle.board_step.proofs.SoundOpening.{apics_many}
 use Rattle.board_step.proofs.WordsStay.{words_stay}
@@ -33,9 +33,6 @@ answers_last : {A : Type 0} (m : Plan A) (q r : Reply) (b : Board) (ws : Wishes)
 answers_last m q r b ws is = last_is_one (run m b ws).log.answers q r (sym (ap (λ (o : Outcome (Unit {0})). o.log.answers) (run-bind (λ _. reply q) m b ws)) ∙ is)
 
 module _ (b : Board) (caller : Caller) (ws : Wishes) where
-  abbrev routing : Routing
-  routing = routing_of_registry b.registry b.shape.tick
-
   -- what a plan answers
   abbrev answers_of : Plan (Unit {0}) → List Reply
   answers_of m = (run m b ws).log.answers
@@ -45,18 +42,18 @@ module _ (b : Board) (caller : Caller) (ws : Wishes) where
   is_free refused plan is = ap (λ o. answers_of (unless_refused o plan)) is
 
   -- whether a call in range that is not refused is a publication shows in its answer
-  shows_in_range : (call : Call) (r : Reply) → first_of (later_reasons b call) ≡ None → answers_of (plan_in_range routing b.shape (number_of caller) call) ≡ r ∷ [] → does_publish b call ≡ did_publish call r
+  shows_in_range : (call : Call) (r : Reply) → first_of (later_reasons b call) ≡ None → answers_of (plan_in_range (routing_on b) b.shape (number_of caller) call) ≡ r ∷ [] → does_publish b call ≡ did_publish call r
   shows_in_range (Call.Reroute rows) r free answers = ap (λ l. is_done (first_reply l)) answers
   shows_in_range (Call.Assign trigger gsi resample) r free answers =
-      sym (ap is_done (answers_last (inject_count routing b.shape gsi resample _) Done r _ ws (sym (is_free _ (assigned routing b.shape b.registry b.counters trigger gsi resample) free) ∙ answers)))
+      sym (ap is_done (answers_last (inject_count (routing_on b) b.shape gsi resample _) Done r _ ws (sym (is_free _ (assigned (routing_on b) b.shape b.registry b.counters trigger gsi resample) free) ∙ answers)))
   shows_in_range (Call.Watch counter gsi) r free answers = ap (λ l. is_done (first_reply l)) (sym (is_free _ _ free) ∙ answers)
   shows_in_range (Call.Unwatch counter gsi) r free answers = ap (λ l. is_done (first_reply l)) (sym (is_free _ _ free) ∙ answers)
   shows_in_range (Call.Deassign trigger gsi) r free answers = by_row (named_row b.registry.irqfds trigger gsi) answers
     where
-      by_row : (row : Option Irqfd) → answers_of (deassigned routing b.registry trigger gsi row) ≡ r ∷ [] → is_some row ≡ is_removed r
+      by_row : (row : Option Irqfd) → answers_of (deassigned (routing_on b) b.registry trigger gsi row) ≡ r ∷ [] → is_some row ≡ is_removed r
       by_row None answers = ap (λ l. is_removed (first_reply l)) answers
       by_row (Some row) answers =
-          sym (ap is_removed (answers_last (release routing gsi (was_last_resampler row (without_row b.registry.irqfds trigger gsi))) (Removed 1) r _ ws answers))
+          sym (ap is_removed (answers_last (release (routing_on b) gsi (was_last_resampler row (without_row b.registry.irqfds trigger gsi))) (Removed 1) r _ ws answers))
   shows_in_range _ r free answers = refl
 
   shows : (call : Call) (r : Reply) → answers_of (plan_on b caller call) ≡ r ∷ [] → would_publish b call ≡ did_publish call r
@@ -65,7 +62,7 @@ module _ (b : Board) (caller : Caller) (ws : Wishes) where
       by_refusal : (refused : Option Refusal) → refusal_of b call ≡ refused → publishes_unless refused b call ≡ did_publish call r
       by_refusal None is =
           let none = none_of_both (range_reasons b.shape call) (later_reasons b call) is in
-          shows_in_range call r none.1 (sym (is_free _ (plan_in_range routing b.shape (number_of caller) call) none.0) ∙ answers)
+          shows_in_range call r none.1 (sym (is_free _ (plan_in_range (routing_on b) b.shape (number_of caller) call) none.0) ∙ answers)
       by_refusal (Some refusal) is =
           sym (ap (did_publish call) (ap first_reply (sym answers ∙ (refuses_first b caller call ws refusal is).answers)) ∙ (grind arith))
 

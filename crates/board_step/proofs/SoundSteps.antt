@@ -1,6 +1,6 @@
 -- A step from a sound board leads to a sound board.
 use Rattle.board_step.proofs.Walks.{Holds, is_plain}
-use Rattle.board_step.proofs.Basics.{◌≡◌, ℕ, ◌+◌, ◌<◌, ◌≤◌, Bool, true, false, All, ◌&&◌, nat_eq, nat_le, if◌then◌else◌, List, [], ◌∷◌, length, Some, None, refl, sym, subst, ◌∙◌, arith, Option, All-head, All-tail, first_of, Call, Assign, Deassign, Reroute, Attach, Detach, Unwatch, Caller, Entry, Calls, Publications, Shape, TickState, ticked, tick_injects, RegistryPart, Routing, routing_of_registry, Board, the_reply, Wishes, run, InLimits, range_reasons, tick_or_hold, number_of, io_row, plan_in_range, IfSome, WatchCall as Watch, TickCall as Tick, NoGsi, NoCounter, BadRange, ChipAddress, frame_stays, IsTyped, StepsKeepSound, HistoriesKeepSound, opening, Leads, bad_gsi, bad_counter, bad_resample, bad_ioevent, is_chip_address, would_publish, plan_on, with_counts, IsSound, no_reason, Part}
+use Rattle.board_step.proofs.Basics.{routing_on, ◌≡◌, ℕ, ◌+◌, ◌<◌, ◌≤◌, Bool, true, false, All, ◌&&◌, nat_eq, nat_le, if◌then◌else◌, List, [], ◌∷◌, length, Some, None, refl, sym, subst, ◌∙◌, arith, Option, All-head, All-tail, first_of, Call, Assign, Deassign, Reroute, Attach, Detach, Unwatch, Caller, Entry, Calls, Publications, Shape, TickState, ticked, tick_injects, RegistryPart, Routing, routing_of_registry, Board, the_reply, Wishes, run, InLimits, range_reasons, tick_or_hold, number_of, io_row, plan_in_range, IfSome, WatchCall as Watch, TickCall as Tick, NoGsi, NoCounter, BadRange, ChipAddress, frame_stays, IsTyped, StepsKeepSound, HistoriesKeepSound, opening, Leads, bad_gsi, bad_counter, bad_resample, bad_ioevent, is_chip_address, would_publish, plan_on, with_counts, IsSound, no_reason, Part}
 use Rattle.board_step.proofs.SoundOpening.{opening_is_sound}
 use Rattle.board_step.proofs.SoundCounts.{CountsFine}
 use Rattle.board_step.proofs.SoundPlans.{Each, each_with}
@@ -21,20 +21,17 @@ module _ (b : Board) (ws : Wishes) (fine : RegistryFine b.shape b.registry) (eac
   abbrev bound : ℕ
   bound = b.length + 1
 
-  abbrev routing : Routing
-  routing = routing_of_registry b.registry b.shape.tick
-
   more : Each b.registry b.shape bound b
   more = wider b.registry b.shape b.length bound b (omega arith) each
 
   whole : Whole b.shape bound b
   whole = record { fine = fine; each = more }
 
-  tick_or_hold_keeps : (after : TickState) (t : Bool) → Holds (sound b.registry b.shape bound) (tick_or_hold routing b.shape after t)
+  tick_or_hold_keeps : (after : TickState) (t : Bool) → Holds (sound b.registry b.shape bound) (tick_or_hold (routing_on b) b.shape after t)
   tick_or_hold_keeps after true = sound_tick b.registry b.shape bound fine (λ pic. the_reply pic)
   tick_or_hold_keeps after false = λ b ws each. each
 
-  in_range : (n : ℕ) (call : Call) → IsTyped call → first_of (range_reasons b.shape call) ≡ None → Whole b.shape bound (run (plan_in_range routing b.shape n call) b ws).board
+  in_range : (n : ℕ) (call : Call) → IsTyped call → first_of (range_reasons b.shape call) ≡ None → Whole b.shape bound (run (plan_in_range (routing_on b) b.shape n call) b ws).board
   in_range n (Assign trigger gsi resample) typed none =
       let one = no_reason (nat_le b.shape.counters trigger) NoCounter (bad_gsi gsi ∷ bad_resample b.shape resample) none in
       let two = no_reason (nat_le 4096 gsi) NoGsi (bad_resample b.shape resample) one.1 in
@@ -50,12 +47,12 @@ module _ (b : Board) (ws : Wishes) (fine : RegistryFine b.shape b.registry) (eac
       watch_whole b.shape bound b ws whole counter gsi (less_of b.shape.counters counter one.0) (less_of 4096 gsi (no_reason (nat_le 4096 gsi) NoGsi [] one.1).0)
   in_range n (Unwatch counter gsi) typed none = unwatch_whole b.shape bound b ws whole counter gsi
   in_range n Tick typed none =
-      kept_whole b.shape bound b.registry (tick_or_hold routing b.shape (ticked b.tick) (tick_injects b.tick)) (record b { tick = ticked b.tick }) ws fine
+      kept_whole b.shape bound b.registry (tick_or_hold (routing_on b) b.shape (ticked b.tick) (tick_injects b.tick)) (record b { tick = ticked b.tick }) ws fine
       (tick_or_hold_keeps (ticked b.tick) (tick_injects b.tick)) (each_with b.registry b.shape bound b Part.Tick (ticked b.tick) more (grind (arith, (each Part.Tick))))
-  in_range n call typed none = kept_whole b.shape bound b.registry (plan_in_range routing b.shape n call) b ws fine (sound_plain b.registry b.shape bound fine n call refl) more
+  in_range n call typed none = kept_whole b.shape bound b.registry (plan_in_range (routing_on b) b.shape n call) b ws fine (sound_plain b.registry b.shape bound fine n call refl) more
 
   call_whole : (caller : Caller) (call : Call) → IsTyped call → Whole b.shape bound (run (plan_on b caller call) b ws).board
-  call_whole caller call typed = unless_whole b.shape bound b ws (first_of (range_reasons b.shape call)) (plan_in_range routing b.shape (number_of caller) call) whole (in_range (number_of caller) call typed)
+  call_whole caller call typed = unless_whole b.shape bound b ws (first_of (range_reasons b.shape call)) (plan_in_range (routing_on b) b.shape (number_of caller) call) whole (in_range (number_of caller) call typed)
 
 -- ---- the counts
 

@@ -1,5 +1,5 @@
 -- A step that is no publication leaves the published words.
-use Rattle.board_step.proofs.Basics.{◌≡◌, ℕ, Bool, true, false, not, ◌||◌, List, [], ◌∷◌, ◌++◌, refl, sym, ap, ◌∙◌, Some, None, Option, first_of, Call, Caller, Entry, Refusal, Irqfd, IoRow, Done, Registry, named_row, Board, published, Routing, routing_of_registry, Plan, reply, ◌>>◌, Wishes, run, range_reasons, attach_reasons, detach_reasons, unless_refused, deassigned, number_of, io_row, plan_in_range, is_some, without_ioevent as without_row, set as put_part, frame_stays, Manner, registry_stays, refusal_on as refusal_of, does_publish, publishes_unless, would_publish, plan_on, outcome_of, with_counts, Step}
+use Rattle.board_step.proofs.Basics.{routing_on, ◌≡◌, ℕ, Bool, true, false, not, ◌||◌, List, [], ◌∷◌, ◌++◌, refl, sym, ap, ◌∙◌, Some, None, Option, first_of, Call, Caller, Entry, Refusal, Irqfd, IoRow, Done, Registry, named_row, Board, published, Routing, routing_of_registry, Plan, reply, ◌>>◌, Wishes, run, range_reasons, attach_reasons, detach_reasons, unless_refused, deassigned, number_of, io_row, plan_in_range, is_some, without_ioevent as without_row, set as put_part, frame_stays, Manner, registry_stays, refusal_on as refusal_of, does_publish, publishes_unless, would_publish, plan_on, outcome_of, with_counts, Step}
 use Rattle.board_step.proofs.CallManner.{replies_in, writes_in, refuses_in, call_keeps, or_true}
 use Rattle.board_step.proofs.Refusing.{refuses_first}
 
@@ -12,9 +12,6 @@ counted_words true b = refl
 counted_words false b = refl
 
 module _ (b : Board) (caller : Caller) (ws : Wishes) where
-  abbrev routing : Routing
-  routing = routing_of_registry b.registry b.shape.tick
-
   -- the words after a plan are those before it
   abbrev Leaves : Plan (Unit {0}) → Type 0
   Leaves plan = words (run plan b ws).board ≡ words b
@@ -28,12 +25,12 @@ module _ (b : Board) (caller : Caller) (ws : Wishes) where
   unwritten : (call : Call) → not (writes_in call) ≡ true → Leaves (plan_on b caller call)
   unwritten call never =
       let w : Manner = record { replies = replies_in call; writes = false; refuses = true } in
-      let keeps = call_keeps w routing b.shape caller call refl (record { replies = refl; writes = ap (λ t. t || false) never; refuses = or_true (not (refuses_in call)) }) in
+      let keeps = call_keeps w (routing_on b) b.shape caller call refl (record { replies = refl; writes = ap (λ t. t || false) never; refuses = or_true (not (refuses_in call)) }) in
       ap (λ r. published r (run (plan_on b caller call) b ws).board.shape.tick) (registry_stays w (plan_on b caller call) b ws refl keeps)
       ∙ ap (λ s. published b.registry s.tick) (frame_stays (plan_on b caller call) b ws).shape
 
   -- where no row is named, none is removed
-  none_removed : (trigger gsi : ℕ) (row : Option Irqfd) → is_some row ≡ false → Leaves (deassigned routing b.registry trigger gsi row)
+  none_removed : (trigger gsi : ℕ) (row : Option Irqfd) → is_some row ≡ false → Leaves (deassigned (routing_on b) b.registry trigger gsi row)
   none_removed trigger gsi None none = refl
   none_removed trigger gsi (Some row) none = cc
 
@@ -47,9 +44,9 @@ module _ (b : Board) (caller : Caller) (ws : Wishes) where
   unpublished (Call.Watch counter gsi) never = cc
   unpublished (Call.Unwatch counter gsi) never = cc
   unpublished (Call.Deassign trigger gsi) never = unless_leaves (first_of (range_reasons b.shape (Call.Deassign trigger gsi))) _ (none_removed trigger gsi (named_row b.registry.irqfds trigger gsi) never)
-  unpublished (Call.Attach space address len counter want) never = unless_leaves (first_of (range_reasons b.shape (Call.Attach space address len counter want))) (plan_in_range routing b.shape (number_of caller) (Call.Attach space address len counter want))
+  unpublished (Call.Attach space address len counter want) never = unless_leaves (first_of (range_reasons b.shape (Call.Attach space address len counter want))) (plan_in_range (routing_on b) b.shape (number_of caller) (Call.Attach space address len counter want))
       (ioevents_leave (first_of (attach_reasons b.registry (io_row space address len counter want))) (b.registry.ioevents ++ io_row space address len counter want ∷ []))
-  unpublished (Call.Detach space address len counter want) never = unless_leaves (first_of (range_reasons b.shape (Call.Detach space address len counter want))) (plan_in_range routing b.shape (number_of caller) (Call.Detach space address len counter want))
+  unpublished (Call.Detach space address len counter want) never = unless_leaves (first_of (range_reasons b.shape (Call.Detach space address len counter want))) (plan_in_range (routing_on b) b.shape (number_of caller) (Call.Detach space address len counter want))
       (ioevents_leave (first_of (detach_reasons b.registry (io_row space address len counter want))) (without_row b.registry.ioevents (io_row space address len counter want)))
   unpublished call never = unwritten call refl
 
