@@ -51,7 +51,8 @@ opens_ioapic part chip holds fits = record { opens = λ i. record { entries = (c
 pub row_next : (n cpus : ℕ) → n < cpus → slice_set (opening_row n (cpus - n)) n (Some (power_on n)) ≡ opening_row (n + 1) (cpus - (n + 1))
 row_next n cpus low =
     let left = cpus - (n + 1) in
-    ap (λ k. slice_set (opening_row n k) n (Some (power_on n))) (omega (arith, low))
+    let more : cpus - n ≡ suc left = omega (arith, low) in
+    ap (λ k. slice_set (opening_row n k) n (Some (power_on n))) more
     ∙ ap (λ k. slice_set (opening_row n (suc left)) k (Some (power_on n))) (sym (length-map (map power_on (numbers_below n)) (λ a. Some a) ∙ apics_many n))
     ∙ put_first (map (λ a. Some a) (map power_on (numbers_below n))) left (Some (power_on n))
     ∙ ap (λ l. l ++ replicate left None) (sym (ap (map (λ a. Some a)) (map-append power_on (numbers_below n) (n ∷ [])) ∙ map-append (λ a. Some a) (map power_on (numbers_below n)) (power_on n ∷ [])))
