@@ -22,15 +22,7 @@ abbrev pin_weight : Targets → Pin → ℕ
 pin_weight targets pin = if has_pin pin targets then 1 else 0
 
 pin_counts : (table : Table) (place : ℕ) (pin : Pin) → counted_at place 1 (gsi_of table pin) ≤ pin_weight (targets_of table place) pin
-pin_counts table place pin = by_gsi (gsi_of table pin) refl
-  where
-    by_gsi : (gsi : Option ℕ) → gsi_of table pin ≡ gsi → counted_at place 1 gsi ≤ pin_weight (targets_of table place) pin
-    by_gsi None is = omega arith
-    by_gsi (Some gsi) is = elim (nat_eq place gsi) as (λ t. nat_eq place gsi ≡ t → (if t then 1 else 0) ≤ pin_weight (targets_of table place) pin) [
-      | true ↦ λ same.
-          subst (λ t. 1 ≤ (if t then 1 else 0)) (sym (gsi_has_pin table pin place (is ∙ ap (λ g. Some g) (grind (same, arith))))) (omega arith)
-      | false ↦ λ _. omega arith
-    ] refl
+pin_counts table place pin = grind (arith, gsi_has_pin)
 
 pins_count : (table : Table) (place : ℕ) (pins : List Pin) → total (λ pin. counted_at place 1 (gsi_of table pin)) pins ≤ total (pin_weight (targets_of table place)) pins
 pins_count table place pins = total_at_most (λ pin. counted_at place 1 (gsi_of table pin)) (pin_weight (targets_of table place)) (pin_counts table place) pins

@@ -45,8 +45,7 @@ below_all n [] all q h = cc
 below_all n (row ∷ rows) all q h = by_test (eqb q row.trigger) refl (below_all n rows (All-tail (IsBelow n) row rows all) q) h
   where
     by_test : (t : Bool) → eqb q row.trigger ≡ t → (list_any (eqb q) (triggers rows) ≡ true → q < n) → (t || list_any (eqb q) (triggers rows)) ≡ true → q < n
-    by_test true same rest h = let e : q ≡ row.trigger = grind (same, arith) in subst (λ m. m < n) (sym e) (All-head (IsBelow n) row rows all)
-    by_test false _ rest h = rest h
+    by_test t h1 h2 h3 = grind (arith, All-head)
 
 length_triggers : (rows : List Irqfd) → length (triggers rows) ≡ length rows
 length_triggers [] = refl
@@ -92,8 +91,7 @@ resamplers_at_most (row ∷ rows) = by_test (is_some row.resample) (resamplers_a
 
 -- a resample counter of some irqfd is that of the list
 is_resample : (counter : ℕ) (rows : List Irqfd) → Any (λ (row : Irqfd). row.resample ≡ Some counter) rows → list_any (has_resample counter) rows ≡ true
-is_resample counter rows (k, row, below, at, resample) =
-    list_any-from_Any (has_resample counter) rows (k, row, below, at, ap (is_counter counter) resample ∙ (grind arith))
+is_resample counter rows h1 = grind (arith, list_any-from_Any)
 
 module _ (counters : ℕ) (registry : RegistryPart) (few : counters ≤ 256) (fits : RegistrationsFit counters registry) (distinct : AreDistinct registry) where
   below : All (IsBelow counters) registry.irqfds

@@ -75,10 +75,7 @@ pub publications_reach_the_registry : PublicationsReachTheRegistry
 publications_reach_the_registry b caller call = by_refusal (refusal_of b call) refl
   where
     by_refusal : (refused : Option Refusal) → refusal_of b call ≡ refused → publishes_unless refused b call ≡ true → reach b caller call Registry ≡ true
-    by_refusal None is publishes =
-        ap (λ o. not (is_some o) && of_call of_acknowledge_each (routing_of_registry b.registry b.shape.tick) b.shape b (number_of caller) call Registry) (none_of_both (range_reasons b.shape call) (later_reasons b call) is).0
-        ∙ (grind (arith, publishes))
-    by_refusal (Some refusal) is publishes = cc
+    by_refusal refused h1 h2 = grind (arith, none_of_both)
 
 -- ---- the frame
 

@@ -137,28 +137,13 @@ module _ (routing : Routing) (shape : Shape) (tells : TellsPins routing shape) (
   written_now part after pin = grind arith
 
   effect_now : (n : ℕ) (effect : Effect) → table.of_effect of_acknowledge_each routing shape b n effect q ≡ table.of_effect of_acknowledges_now routing shape b n effect q
-  effect_now n LapicEffect.Plain = refl
-  effect_now n (LapicEffect.Ended vector) = end_now vector
-  effect_now n (LapicEffect.Send ipi) = refl
+  effect_now n effect = grind (arith, end_now)
 
   store_now : (n address len value : ℕ) → table.of_store of_acknowledge_each routing shape b n address len value q ≡ table.of_store of_acknowledges_now routing shape b n address len value q
-  store_now n address len value =
-      let written = write_to (ioapic_of b.ioapic) (address - 0xfec00000) value in
-      λ i. if is_ioapic_address address then is_same Ioapic q || (nat_eq len 4 && written_now b.ioapic written.after written.pin i)
-      else if is_lapic_address address then is_same (Lapic n) q || (nat_eq len 4 && effect_now n (store_effect (part_of b (Lapic n)) (address - 0xfee00000) value) i)
-      else ring_now Space.Memory address len value i
+  store_now n address len value = grind (arith, written_now, effect_now, ring_now)
 
   call_now : (n : ℕ) (call : Call) → table.of_call of_acknowledge_each routing shape b n call q ≡ table.of_call of_acknowledges_now routing shape b n call q
-  call_now n (Call.Write counter count) = grind arith
-  call_now n (Call.Deassign trigger gsi) = ap (λ t. is_same Registry q || (t && of_fall (routing.targets gsi) q)) (grind arith)
-  call_now n (Call.PortOut port len value) =
-      λ i. if is_port port then pair_now len (pair_write_to (pair_of b.pic) port value).pin i else ring_now Space.Port port len value i
-  call_now n (Call.PortIn port len) = λ i. if is_port port then pair_now len (pair_read_from (pair_of b.pic) port).pin i else false
-  call_now n (Call.Store address len value) = store_now n address len value
-  call_now n Call.Ack = ap (λ t. is_same (Lapic n) q || ((not (part_of b (Lapic n)).nmi && hears_pair n (part_of b (Lapic n))) && (is_same Pic q || (has_output (pair_of b.pic) && t)))) cycle_now
-  call_now n Call.Inta = ap (λ t. is_same Pic q || t) cycle_now
-  call_now n Call.Eoi = ap (λ t. is_same (Lapic n) q || t) (end_now (greatest_vector (part_of b (Lapic n)).isr))
-  call_now n _ = refl
+  call_now n call = grind (arith, pair_now, ring_now, store_now, cycle_now, end_now)
 
 -- where the registry is sound
 pub reach_by_registry : (b : Board) (caller : Caller) (call : Call) (q : Part) → IsSoundRegistry b.registry b.shape.tick → reach b caller call q ≡ reach_now b caller call q

@@ -1,5 +1,5 @@
 -- A call that is refused, and no other, answers its refusal.
-use Rattle.board_step.proofs.Basics.{◌≡◌, ℕ, Bool, true, false, not, ◌||◌, if◌then◌else◌, List, [], ◌∷◌, ◌++◌, refl, sym, ap, ◌∙◌, true≢false, option_map, Some, None, Option, Reason, first_of, Call, Caller, Entry, Refusal, Reply, Refused, Done, Irqfd, of_trigger, Board, trigger_of, routing_of_registry, Plan, Wishes, Outcome, run, range_reasons, write_reasons, unless_refused, write, number_of, plan_in_range, is_some, Manner, some_refusal, Keeps, accepts, later_reasons, refusal_on as refusal_of, plan_on, outcome_of, Step, RefusesRightly}
+use Rattle.board_step.proofs.Basics.{arith, ◌≡◌, ℕ, Bool, true, false, not, ◌||◌, if◌then◌else◌, List, [], ◌∷◌, ◌++◌, refl, sym, ap, ◌∙◌, true≢false, option_map, Some, None, Option, Reason, first_of, Call, Caller, Entry, Refusal, Reply, Refused, Done, Irqfd, of_trigger, Board, trigger_of, routing_of_registry, Plan, Wishes, Outcome, run, range_reasons, write_reasons, unless_refused, write, number_of, plan_in_range, is_some, Manner, some_refusal, Keeps, accepts, later_reasons, refusal_on as refusal_of, plan_on, outcome_of, Step, RefusesRightly}
 use Rattle.board_step.proofs.CallManner.{replies_in, writes_in, refuses_in, ends, write_trigger_keeps, assigned_keeps, in_range_keeps, or_true}
 
 -- ---- reasons one after another
@@ -40,13 +40,7 @@ module _ (b : Board) (caller : Caller) (ws : Wishes) where
 
   -- a call in range that is refused
   later_refused : (call : Call) (refusal : Refusal) → first_of (later_reasons b call) ≡ Some refusal → in_range call ≡ refused_outcome b ws refusal
-  later_refused (Call.Write counter count) refusal is = write_refused counter count refusal (of_trigger b.registry.irqfds counter) is
-  later_refused (Call.Assign trigger gsi resample) refusal is = is_refused _ _ refusal is
-  later_refused (Call.Attach space address len counter want) refusal is = is_refused _ _ refusal is
-  later_refused (Call.Detach space address len counter want) refusal is = is_refused _ _ refusal is
-  later_refused (Call.Watch counter gsi) refusal is = is_refused _ _ refusal is
-  later_refused (Call.Unwatch counter gsi) refusal is = is_refused _ _ refusal is
-  later_refused _ refusal is = cc
+  later_refused call refusal h1 = grind (arith, write_refused, is_refused)
 
   -- a call that is refused
   call_refused : (call : Call) (refusal : Refusal) → refusal_of b call ≡ Some refusal → run (plan_on b caller call) b ws ≡ refused_outcome b ws refusal

@@ -29,14 +29,10 @@ wished s somebody = elim (is_empty s.new) as (λ t. is_empty s.new ≡ t → (if
 ] refl
 
 event_none : (x : Event) → sets_told x ≡ nobody → wish_shown x ≡ []
-event_none (Injected gsi status) h = ap wish_of h ∙ none_wished
-event_none (Resent pin status) h = ap wish_of h ∙ none_wished
-event_none (Ipi status) h = ap wish_of h ∙ none_wished
-event_none _ h = refl
+event_none x h1 = grind (arith, none_wished)
 
 reply_none : (r : Reply) → sets_replied r ≡ nobody → wish_replied r ≡ []
-reply_none (Signal status) h = ap wish_of h ∙ none_wished
-reply_none _ h = refl
+reply_none r h1 = grind (arith, none_wished)
 
 -- ---- a log
 

@@ -24,19 +24,10 @@ pub resamples_if : (b : Bool) → source_of b ≡ Resample → b ≡ true
 resamples_if b h1 = grind arith
 
 written_length : (io : Ioapic) (register : Register) (value : ℕ) → length (register_written io register value).after.entries ≡ length io.entries
-written_length io (ioregisters.LowHalf pin) value = length-set io.entries pin _
-written_length io (ioregisters.HighHalf pin) value = length-set io.entries pin _
-written_length io _ value = refl
+written_length io register value = grind (arith, length-set)
 
 write_length : (io : Ioapic) (offset value : ℕ) → length (write_to io offset value).after.entries ≡ length io.entries
-write_length io offset value =
-    elim (nat_eq offset 0x00) as (λ t. length (if t then record { after = record io { selected = value % 2 ^ 8 }; pin = None } else if nat_eq offset 0x10 then register_written io (register_of io.selected) value else record { after = io; pin = None }).after.entries ≡ length io.entries) [
-      | true ↦ refl
-      | false ↦ elim (nat_eq offset 0x10) as (λ t. length (if t then register_written io (register_of io.selected) value else record { after = io; pin = None }).after.entries ≡ length io.entries) [
-        | true ↦ written_length io (register_of io.selected) value
-        | false ↦ refl
-      ]
-    ]
+write_length io offset value = grind (arith, written_length)
 
 module _ (r : RegistryPart) (shape : Shape) (bound : ℕ) where
   -- that each part is as a sound board with this registry has it

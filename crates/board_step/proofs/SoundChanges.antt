@@ -44,10 +44,7 @@ none_more p xs x none off = list_any-append p xs (x ∷ []) ∙ or_both (list_an
 
 -- a trigger that is signalled by no row is signalled by none with a notifier more of another counter
 roles_more : (f : ℕ → Bool) (rows : List Watch) (row : Watch) (all : List Irqfd) → All (λ (i : Irqfd). (f i.trigger || has_counter rows i.trigger) ≡ false) all → All (λ (i : Irqfd). has_trigger row.counter i ≡ false) all → All (λ (i : Irqfd). (f i.trigger || has_counter (rows ++ row ∷ []) i.trigger) ≡ false) all
-roles_more f rows row all old other k d below =
-    let t = (get_or all k d).trigger in
-    let each = or_neither (f t) (has_counter rows t) (old k d below) in
-    or_both (f t) (has_counter (rows ++ row ∷ []) t) each.0 (none_more (λ (x : Watch). nat_eq x.counter t) rows row each.1 (grind (arith, (other k d below))))
+roles_more f rows row all h1 h2 = grind (arith, none_more)
 
 -- and with an irqfd more of another resample counter
 role_more : (rows : List Irqfd) (row : Irqfd) (g : Bool) (t : ℕ) → (list_any (has_resample t) rows || g) ≡ false → has_resample t row ≡ false → (list_any (has_resample t) (rows ++ row ∷ []) || g) ≡ false
@@ -139,10 +136,7 @@ or_there a b h1 = grind arith
 
 -- a row with a resample counter is a resampler of its GSI
 pub own_row : (r : RegistryPart) (row : Irqfd) → is_some row.resample ≡ true → has_resampler (r.irqfds ++ row ∷ []) row.gsi ≡ true
-own_row r row is = list_any-append (resamples row.gsi) r.irqfds (row ∷ []) ∙ or_there (has_resampler r.irqfds row.gsi) (resamples row.gsi row || false) (own row.gsi (is_some row.resample) is)
-  where
-    own : (n : ℕ) (c : Bool) → c ≡ true → ((nat_eq n n && c) || false) ≡ true
-    own n c e = grind arith
+own_row r row h1 = grind (arith, list_any-append, or_there)
 
 -- a GSI with a resampler has one with a row more
 pub more_resampler : (r : RegistryPart) (row : Irqfd) (pin : Pin) → HasResampler r pin → HasResampler (record r { irqfds = r.irqfds ++ row ∷ [] }) pin

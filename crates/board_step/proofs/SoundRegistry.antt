@@ -1,5 +1,5 @@
 -- What a sound registry tells of triggers, of signalled counters and of pins.
-use Rattle.board_step.proofs.Basics.{◌≡◌, ℕ, ◌<◌, Bool, true, false, true≢false, cond, ◌&&◌, ◌||◌, nat_eq, if◌then◌else◌, List, [], ◌∷◌, map, filter, All, Some, None, refl, sym, ap, subst, ◌∙◌, IsTrue, filter_map, find, list_any, cons_option, first_so, second_so, unsigned_Decides, Option, All-head, All-tail, Pin, MsiWord, Source, Resample, Shape, Irqfd, Watch, Row, TriggerWord, has_trigger, resamples, of_trigger, has_resampler, resample_of, resampled, watched, has_counter, Table, table_of, targets_of, refusal_of, has_pin, gsi_of, RegistryPart, trigger_of, IsSoundTable, IsSoundRegistry, RegistrationsFit, is_trigger, is_counter, has_resample, is_signalled, option_map, is_below, is_route_of, is_same_pin as is_same, sound_of, is_same-some, gsi_of_pin, pin_of_gsi, HasResampler, AreDistinct}
+use Rattle.board_step.proofs.Basics.{arith, ◌≡◌, ℕ, ◌<◌, Bool, true, false, true≢false, cond, ◌&&◌, ◌||◌, nat_eq, if◌then◌else◌, List, [], ◌∷◌, map, filter, All, Some, None, refl, sym, ap, subst, ◌∙◌, IsTrue, filter_map, find, list_any, cons_option, first_so, second_so, unsigned_Decides, Option, All-head, All-tail, Pin, MsiWord, Source, Resample, Shape, Irqfd, Watch, Row, TriggerWord, has_trigger, resamples, of_trigger, has_resampler, resample_of, resampled, watched, has_counter, Table, table_of, targets_of, refusal_of, has_pin, gsi_of, RegistryPart, trigger_of, IsSoundTable, IsSoundRegistry, RegistrationsFit, is_trigger, is_counter, has_resample, is_signalled, option_map, is_below, is_route_of, is_same_pin as is_same, sound_of, is_same-some, gsi_of_pin, pin_of_gsi, HasResampler, AreDistinct}
 use borrow.Author.Tests.{ltb-true}
 use Rattle.board_step.proofs.SoundCounts.{NoTriggers}
 use Rattle.board_step.proofs.SoundSends.{MayHold}
@@ -96,15 +96,10 @@ irqfd_resamples (x ∷ xs) c t e on =
 -- ---- pins
 
 route_pic : (pic ioapic : Option ℕ) (msi : Option MsiWord) (pin : ℕ) → pic ≡ Some pin → is_route_of pic ioapic msi ≡ true → pin < 16
-route_pic None ioapic msi pin e route = cc
-route_pic (Some n) ioapic None pin e route = let same : n ≡ pin = cc in subst (λ k. k < 16) same (ltb-true n 16 (first_so _ _ route))
-route_pic (Some n) ioapic (Some m) pin e route = absurd (true≢false (sym route))
+route_pic pic ioapic msi pin h1 h2 = grind (arith, ltb-true)
 
 route_ioapic : (pic ioapic : Option ℕ) (msi : Option MsiWord) (pin : ℕ) → ioapic ≡ Some pin → is_route_of pic ioapic msi ≡ true → pin < 24
-route_ioapic pic None msi pin e route = cc
-route_ioapic pic (Some n) None pin e route = let same : n ≡ pin = cc in subst (λ k. k < 24) same (ltb-true n 24 (second_so (is_below pic 16) _ route))
-route_ioapic None _ _ pin e route = absurd (true≢false (sym route))
-route_ioapic _ _ _ pin e route = absurd (true≢false (sym route))
+route_ioapic pic ioapic msi pin h1 h2 = grind (arith, ltb-true)
 
 -- a table is that of rows that keep the rules
 abbrev pub IsMade : Table → Type 0

@@ -35,10 +35,7 @@ any_fewer p keep (x ∷ xs) e =
     later a b h1 = grind arith
 
 pub none_fewer : {X : Type 0} (p keep : X → Bool) (xs : List X) → list_any p xs ≡ false → list_any p (filter keep xs) ≡ false
-none_fewer p keep xs none = elim (list_any p (filter keep xs)) as (λ t. list_any p (filter keep xs) ≡ t → t ≡ false) [
-  | true ↦ λ e. absurd (true≢false (sym (any_fewer p keep xs e) ∙ none))
-  | false ↦ λ _. refl
-] refl
+none_fewer p keep xs h1 = grind (arith, any_fewer)
 
 -- a filter keeps no more
 pub length_fewer : {X : Type 0} (keep : X → Bool) (xs : List X) → length (filter keep xs) ≤ length xs

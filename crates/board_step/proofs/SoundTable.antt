@@ -31,8 +31,7 @@ made_none n m k long sixteen twenty_four = record {
 }
 
 owner_length : (owners : List ℕ) (pin : Option ℕ) (gsi : ℕ) → length (with_owner owners pin gsi) ≡ length owners
-owner_length owners None gsi = refl
-owner_length owners (Some pin) gsi = length-set owners pin _
+owner_length owners pin gsi = grind (arith, length-set)
 
 pub both_none : (xs ys : List Reason) → first_of (xs ++ ys) ≡ None → (first_of xs ≡ None) × (first_of ys ≡ None)
 both_none [] ys e = (refl, e)

@@ -84,8 +84,7 @@ module _ (routing : Routing) (shape : Shape) (n : ℕ) (far : shape.cpus ≤ n) 
   far_level b (Pin.Ioapic pin) = and_false (entry_at (ioapic_of b.ioapic) pin).level _ (far_resend (resend_of (pin_acked (ioapic_of b.ioapic) pin) pin))
 
   far_tick : (b : Board) (gsi : Option ℕ) → of_tick routing shape b gsi (Lapic n) ≡ false
-  far_tick b None = refl
-  far_tick b (Some gsi) = and_false (nat_eq gsi shape.tick) _ (and_false (ack_injects b.tick) _ (far_gsi b shape.tick))
+  far_tick b gsi = grind (arith, and_false, far_gsi)
 
   far_acknowledge : (b : Board) (pin : Pin) → of_acknowledge routing shape b pin (Lapic n) ≡ false
   far_acknowledge b pin =
@@ -100,30 +99,22 @@ module _ (routing : Routing) (shape : Shape) (n : ℕ) (far : shape.cpus ≤ n) 
   -- ---- calls
 
   far_end : (b : Board) (vector : Option ℕ) → of_end of_acknowledge_each routing shape b vector (Lapic n) ≡ false
-  far_end b None = refl
-  far_end b (Some vector) = far_each b (pins_with (ioapic_of b.ioapic) vector)
+  far_end b vector = grind (arith, far_each)
 
   far_counter : (b : Board) (trigger : Option TriggerWord) → of_counter of_acknowledge_each routing shape b trigger (Lapic n) ≡ false
-  far_counter b None = refl
-  far_counter b (Some trigger) = far_gsi b trigger.gsi
+  far_counter b trigger = grind (arith, far_gsi)
 
   far_write : (b : Board) (trigger : Option TriggerWord) (count : ℕ) → of_write of_acknowledge_each routing shape b trigger count (Lapic n) ≡ false
-  far_write b None count = refl
-  far_write b (Some trigger) count = and_false (not (nat_eq count 0)) _ (far_gsi b trigger.gsi)
+  far_write b trigger count = grind (arith, and_false, far_gsi)
 
   far_pair : (b : Board) (len : ℕ) (pin : Option ℕ) → of_pair of_acknowledge_each routing shape b len pin (Lapic n) ≡ false
   far_pair b len pin = and_false (nat_eq len 1) _ (far_each b (pic_pin pin))
 
   far_written : (part : IoapicPart) (written : Written) → of_written of_acknowledge_each routing shape part written (Lapic n) ≡ false
-  far_written part written = by_pin written.pin
-    where
-      by_pin : (pin : Option ℕ) → of_written of_acknowledge_each routing shape part (record written { pin = pin }) (Lapic n) ≡ false
-      by_pin None = refl
-      by_pin (Some pin) = far_resend (resend_of (ioapic_of (with_ioapic part written.after)) pin)
+  far_written part written = grind (arith, far_resend)
 
   far_rung : (b : Board) (counter : Option ℕ) → of_rung of_acknowledge_each routing shape b counter (Lapic n) ≡ false
-  far_rung b None = refl
-  far_rung b (Some counter) = far_counter b (routing.trigger counter)
+  far_rung b counter = grind (arith, far_counter)
 
   far_ring : (b : Board) (space : Space) (address len value : ℕ) → of_ring of_acknowledge_each routing shape b space address len value (Lapic n) ≡ false
   far_ring b space address len value = far_rung b (rung_by b.registry.ioevents space address len value)
@@ -138,11 +129,7 @@ module _ (routing : Routing) (shape : Shape) (n : ℕ) (far : shape.cpus ≤ n) 
     far_effect b (LapicEffect.Send ipi) = far_message n shape.cpus far ipi.message (Some (m, ipi.to))
 
     far_store : (b : Board) (address len value : ℕ) → of_store of_acknowledge_each routing shape b m address len value (Lapic n) ≡ false
-    far_store b address len value =
-        if_false (is_ioapic_address address) _ _ (and_false (nat_eq len 4) _ (far_written b.ioapic (write_to (ioapic_of b.ioapic) (address - 0xfec00000) value)))
-        (if_false (is_lapic_address address) _ _
-        (or_false (nat_eq m n) _ own (and_false (nat_eq len 4) _ (far_effect b (store_effect (part_of b (Lapic m)) (address - 0xfee00000) value))))
-        (far_ring b Space.Memory address len value))
+    far_store b address len value = grind (arith, if_false, and_false, far_written, or_false, far_effect, far_ring)
 
     far_load : (address : ℕ) → of_load of_acknowledge_each routing shape m address (Lapic n) ≡ false
     far_load address = if_false (is_ioapic_address address) _ _ refl (if_false (is_lapic_address address) _ _ own refl)
@@ -185,9 +172,7 @@ pub reach_is_there : ReachIsThere
 reach_is_there b caller call n allowed within = by_test (nat_lt n b.shape.cpus) refl
   where
     beyond : b.shape.cpus ≤ n → reach b caller call (Lapic n) ≡ false
-    beyond far = and_false (not (is_some (first_of (range_reasons b.shape call)))) _
-        (far_call (routing_of_registry b.registry b.shape.tick) b.shape n far b (number_of caller) call (own_is_there caller call b.shape n far allowed))
+    beyond h1 = grind (arith, and_false, far_call, own_is_there)
 
     by_test : (t : Bool) → nat_lt n b.shape.cpus ≡ t → n < b.shape.cpus
-    by_test true low = grind arith
-    by_test false high = (let far : b.shape.cpus ≤ n = grind arith in absurd (true≢false (sym within ∙ beyond far)))
+    by_test t h1 = grind (arith, beyond)
