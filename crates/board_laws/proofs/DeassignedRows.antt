@@ -46,10 +46,7 @@ none_left trigger gsi (x ∷ xs) row apart e = elim (is_named trigger gsi x) as 
 ] refl e
   where
     another : named_row xs trigger gsi ≡ Some row → has_trigger trigger x ≡ false
-    another later = elim (eqb_tells x.trigger trigger) [
-      | inl same ↦ absurd (true≢false (sym (found_any trigger gsi xs row later) ∙ subst (λ (n : ℕ). list_any (has_trigger n) xs ≡ false) same.1 apart.0))
-      | inr other ↦ other.0
-    ]
+    another h1 = grind (arith, found_any)
 
 -- ---- what a call does to the rows
 

@@ -201,11 +201,7 @@ module _ (b : Board) (stand : HasProcessors b b.shape.cpus) (targets : Targets) 
 
           -- where nobody newly took it, each one that it reached had the request
           had : is_empty is.sent.new ≡ true → (k : ℕ) → contains s k ≡ true → has_request_on b message k ≡ true
-          had none k reached = of_test (has_request_on b message k) refl
-            where
-              of_test : (t : Bool) → has_request_on b message k ≡ t → t ≡ true
-              of_test true e = refl
-              of_test false e = absurd (true≢false (sym (ap (λ t. t && not (has_request_on b message k)) reached ∙ ap not e) ∙ sym (is.new k) ∙ no_member is.sent.new k none))
+          had h1 k h2 = grind (arith, no_member)
 
           requests : is_empty is.sent.new ≡ true → SameRequests b o.board
           requests none n = ap (λ (a : LocalApic). a.irr) (is.after n) ∙ (elim (contains s n) as (λ t. contains s n ≡ t → (if t then accepted (part_of b (Lapic n)) message else part_of b (Lapic n)).irr ≡ (part_of b (Lapic n)).irr) [

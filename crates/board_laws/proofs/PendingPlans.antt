@@ -28,22 +28,11 @@ accepted_keeps a m message h = elim (is_nmi m.mode) as (λ t. has (if t then rec
 ]
   where
     of_request : (t : Bool) → (if t then a.nmi else contains a.irr message.vector) ≡ true → (if t then a.nmi else contains (insert a.irr m.vector) message.vector) ≡ true
-    of_request true h = h
-    of_request false h = contains-insert_number a.irr m.vector message.vector ∙ or_later (nat_eq message.vector m.vector) _ h
+    of_request t h1 = grind (arith, contains-insert_number, or_later)
 
 -- a legal message that is heard is a request
 pub accepted_has : (a : LocalApic) (m : Message) → does_hear m.mode a ≡ true → is_illegal m ≡ false → has (accepted a m) m ≡ true
-accepted_has a m = elim (is_nmi m.mode) as (λ t. (t || is_enabled a) ≡ true → (if t then false else nat_lt m.vector 16) ≡ false → (if t then (if t then record a { nmi = true } else if not (is_enabled a) then a else if nat_lt m.vector 16 then with_error a 6 else with_request a m).nmi else contains (if t then record a { nmi = true } else if not (is_enabled a) then a else if nat_lt m.vector 16 then with_error a 6 else with_request a m).irr m.vector) ≡ true) [
-  | true ↦ λ _ _. refl
-  | false ↦ λ hears legal.
-      ap (λ t. contains (if not t then a else if nat_lt m.vector 16 then with_error a 6 else with_request a m).irr m.vector) hears
-      ∙ ap (λ t. contains (if t then with_error a 6 else with_request a m).irr m.vector) legal
-      ∙ contains-insert_number a.irr m.vector m.vector
-      ∙ ap (λ t. t || contains a.irr m.vector) (itself m.vector)
-]
-  where
-    itself : (n : ℕ) → nat_eq n n ≡ true
-    itself n = grind arith
+accepted_has a m h1 h2 = grind (arith, contains-insert_number)
 
 -- ---- local APICs
 

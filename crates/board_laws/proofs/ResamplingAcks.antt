@@ -1,5 +1,5 @@
 -- What plans leave whose acknowledges resample: the counts that their events tell, and no pin more for Resample.
-use Rattle.board_laws.proofs.Basics.{Holds as HoldsOf, ◌≡◌, ℕ, Bool, true, false, cond, List, [], ◌∷◌, ◌++◌, map, Some, None, refl, sym, ap, subst, ◌∙◌, append_assoc, Option, unsigned_Decides, signalled, signalled_all, Event, Acked, Resampled, Watched, Pin, Resample, PinHolds as Holds, hold, has_resampler, resample_events, Table, targets_of, has_pin, gsi_of, RegistryPart, Board, with_part, Plan, ◌>>◌, Wishes, Outcome, then_run, run, let_go_pic, let_go_ioapic, say_each, signal_each, find, fold-append, is_same_pin as is_same, Part, counter_told, counters_told, IsReleased, contains, remove}
+use Rattle.board_laws.proofs.Basics.{arith, Holds as HoldsOf, ◌≡◌, ℕ, Bool, true, false, cond, List, [], ◌∷◌, ◌++◌, map, Some, None, refl, sym, ap, subst, ◌∙◌, append_assoc, Option, unsigned_Decides, signalled, signalled_all, Event, Acked, Resampled, Watched, Pin, Resample, PinHolds as Holds, hold, has_resampler, resample_events, Table, targets_of, has_pin, gsi_of, RegistryPart, Board, with_part, Plan, ◌>>◌, Wishes, Outcome, then_run, run, let_go_pic, let_go_ioapic, say_each, signal_each, find, fold-append, is_same_pin as is_same, Part, counter_told, counters_told, IsReleased, contains, remove}
 use Rattle.std.specs.FinMap as fin_map
 use Rattle.board_laws.proofs.ResamplingPlans.{gone, NoMore, no_more, AreQuiet, Leaves, left}
 
@@ -77,8 +77,7 @@ module _ (r : RegistryPart) where
     follow_both (x ∷ xs) ys one two = (followed_later x xs ys one.0, follow_both xs ys one.1 two)
 
   counts_both : (start middle end_ : List ℕ) (xs ys : List Event) → middle ≡ signalled_all start (counters_told xs) → end_ ≡ signalled_all middle (counters_told ys) → end_ ≡ signalled_all start (counters_told (xs ++ ys))
-  counts_both start middle end_ xs ys one two =
-      two ∙ ap (λ l. signalled_all l (counters_told ys)) one ∙ sym (fold-append signalled start (counters_told xs) (counters_told ys)) ∙ ap (signalled_all start) (sym (told_both xs ys))
+  counts_both start middle end_ xs ys h1 h2 = grind (arith, fold-append, told_both)
 
   -- what an outcome does, and then the plan of its value
   pub then_does : {A B : Type 0} (b : Board) (o : Outcome A) (f : A → Plan B) → Does b o → Does o.board (run (f o.value) o.board o.wishes) → Does b (then_run o f)
