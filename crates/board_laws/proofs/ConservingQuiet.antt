@@ -64,11 +64,8 @@ module _ (may : ℕ → Bool) where
 
   -- ---- parts of an acknowledge
 
-  tells : Tells still
-  tells = tells_by still (λ counter b ws fit. (refl, (refl, tt))) (λ counter b ws fit. (refl, (refl, tt))) (λ registry gsi seen b fit. refl) (λ registry gsi seen b fit. refl)
-
   pub tell_quiet : (routing : Routing) (gsi : Option ℕ) → Holds still (tell_concerned routing gsi)
-  tell_quiet routing gsi = tell_holds still routing 0 still_signals tells gsi
+  tell_quiet routing gsi = tell_holds still routing 0 still_signals (tells_by still (λ counter b ws fit. (refl, (refl, tt))) (λ counter b ws fit. (refl, (refl, tt))) (λ registry gsi seen b fit. refl) (λ registry gsi seen b fit. refl)) gsi
 
   pub level_quiet : (cpus : ℕ) (pin : Pin) → Holds still (end_level cpus pin)
   level_quiet cpus pin = end_level_holds still cpus still_signals (λ pin. still_shows (resent pin) refl) (λ pin b fit. refl) pin

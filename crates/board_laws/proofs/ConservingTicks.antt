@@ -163,15 +163,12 @@ IsOpen s = s.reinjects ≡ false → s.free ≡ true
 open_stays : {A : Type 0} {tick taken : ℕ} {rings : Bool} {may : ℕ → Bool} {b : Board} {o : Outcome A} → Conserves tick rings may taken b o → IsOpen b.tick → IsOpen o.board.tick
 open_stays r before off = let was = sym r.reinjects ∙ off in ap (λ (s : TickState). s.free) (r.stays was) ∙ before was
 
-ticked_open : (s : TickState) → IsOpen s → IsOpen (ticked s)
-ticked_open s = elim s.reinjects as (λ t. IsOpen s → IsOpen (if t then record s { pending = s.pending + 1 } else s)) [ true ↦ λ before. before | false ↦ λ before. before ]
-
 call_open : (b : Board) (caller : Caller) (ws : Wishes) (call : Call) → IsOpen b.tick → IsOpen (run (plan_on b caller call) b ws).board.tick
 call_open b caller ws call before = by_call call
   where
     by_call : (call : Call) → IsOpen (run (plan_on b caller call) b ws).board.tick
     by_call Call.Tick =
-        open_stays (tick_keeps (routing_on b) b.shape true (λ _. true) (ticked b.tick) (tick_injects b.tick) (with_part b Part.Tick (ticked b.tick)) ws) (ticked_open b.tick before)
+        open_stays (tick_keeps (routing_on b) b.shape true (λ _. true) (ticked b.tick) (tick_injects b.tick) (with_part b Part.Tick (ticked b.tick)) ws) ((elim b.tick.reinjects as (λ t. IsOpen b.tick → IsOpen (if t then record b.tick { pending = b.tick.pending + 1 } else b.tick)) [ true ↦ λ before. before | false ↦ λ before. before ]) before)
     by_call (Call.TickMode reinject) = λ _. refl
     by_call call = open_stays (call_keeps (routing_on b) b.shape true (λ _. true) caller call (lets_all call refl refl) b ws) before
 

@@ -22,13 +22,10 @@ pub accepted_keeps : (a : LocalApic) (m : Message) → KeepsRequests a (accepted
 accepted_keeps a m message h = elim (is_nmi m.mode) as (λ t. has (if t then record a { nmi = true } else if not (is_enabled a) then a else if nat_lt m.vector 16 then with_error a 6 else with_request a m) message ≡ true) [
   | true ↦ (grind (arith, h))
   | false ↦ elim (is_enabled a) as (λ t. has (if not t then a else if nat_lt m.vector 16 then with_error a 6 else with_request a m) message ≡ true) [
-    | true ↦ elim (nat_lt m.vector 16) as (λ t. has (if t then with_error a 6 else with_request a m) message ≡ true) [ true ↦ h | false ↦ of_request (is_nmi message.mode) h ]
+    | true ↦ elim (nat_lt m.vector 16) as (λ t. has (if t then with_error a 6 else with_request a m) message ≡ true) [ true ↦ h | false ↦ (grind (arith, contains-insert_number, or_later, h)) ]
     | false ↦ h
   ]
 ]
-  where
-    of_request : (t : Bool) → (if t then a.nmi else contains a.irr message.vector) ≡ true → (if t then a.nmi else contains (insert a.irr m.vector) message.vector) ≡ true
-    of_request t h1 = grind (arith, contains-insert_number, or_later)
 
 -- a legal message that is heard is a request
 pub accepted_has : (a : LocalApic) (m : Message) → does_hear m.mode a ≡ true → is_illegal m ≡ false → has (accepted a m) m ≡ true

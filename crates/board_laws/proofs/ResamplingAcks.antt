@@ -76,16 +76,13 @@ module _ (r : RegistryPart) where
     follow_both [] ys one two = two
     follow_both (x ∷ xs) ys one two = (followed_later x xs ys one.0, follow_both xs ys one.1 two)
 
-  counts_both : (start middle end_ : List ℕ) (xs ys : List Event) → middle ≡ signalled_all start (counters_told xs) → end_ ≡ signalled_all middle (counters_told ys) → end_ ≡ signalled_all start (counters_told (xs ++ ys))
-  counts_both start middle end_ xs ys h1 h2 = grind (arith, fold-append, told_both)
-
   -- what an outcome does, and then the plan of its value
   pub then_does : {A B : Type 0} (b : Board) (o : Outcome A) (f : A → Plan B) → Does b o → Does o.board (run (f o.value) o.board o.wishes) → Does b (then_run o f)
   then_does {A} {B} b o f one two =
       let last : Outcome B = run (f o.value) o.board o.wishes in
       record {
         registry = two.registry;
-        counts = counts_both b.counters o.board.counters last.board.counters o.log.events last.log.events one.counts two.counts;
+        counts = (grind (arith, fold-append, told_both, one.counts, two.counts));
         pic = no_more b.pic.holds o.board.pic.holds last.board.pic.holds one.pic two.pic;
         ioapic = no_more b.ioapic.holds o.board.ioapic.holds last.board.ioapic.holds one.ioapic two.ioapic;
         follows = follow_both o.board last.board two.pic two.ioapic o.log.events last.log.events one.follows two.follows;

@@ -18,9 +18,6 @@ module _ (r : RegistryPart) (shape : Shape) where
   replied : Replied quiet routing shape
   replied = open_replied quiet quiet_open routing shape replies (λ gsi b ws fit. tt) (λ pic. quiet_shows (the_reply pic))
 
-  fall_quiet : Holds quiet (inject_tick routing shape (λ pic. the_reply pic))
-  fall_quiet = inject_tick_holds quiet routing shape signals (open_raise quiet quiet_open _ _) (λ status b fit. tt) (λ pic. the_reply pic) (λ pic. quiet_shows (the_reply pic))
-
   rings : (counter : Option ℕ) → Holds quiet (rung routing shape counter)
   rings = rung_holds quiet routing shape signals (open_rings quiet quiet_open routing shape replies (λ counter b ws fit. (refl, tt)) (λ gsi pic. quiet_shows (injected gsi pic))) replies
 
@@ -67,7 +64,7 @@ module _ (r : RegistryPart) (shape : Shape) where
   in_range n (Call.Detach space address len counter want) = quietly (detach (io_row space address len counter want)) (detach_holds quiet routing shape replies (λ v b fit. tt) (io_row space address len counter want))
   in_range n (Call.Watch counter gsi) = quietly (watch counter gsi) (watch_holds quiet routing shape replies (λ v b fit. tt) counter gsi)
   in_range n (Call.Unwatch counter gsi) = quietly (unwatch counter gsi) (unwatch_holds quiet routing shape replies (λ v b fit. tt) counter gsi)
-  in_range n Call.Tick = λ b ws is. inl (tick_or_hold_holds quiet routing shape replies fall_quiet (ticked b.tick) (tick_injects b.tick) (record b { tick = ticked b.tick }) ws tt)
+  in_range n Call.Tick = λ b ws is. inl (tick_or_hold_holds quiet routing shape replies (inject_tick_holds quiet routing shape signals (open_raise quiet quiet_open _ _) (λ status b fit. tt) (λ pic. the_reply pic) (λ pic. quiet_shows (the_reply pic))) (ticked b.tick) (tick_injects b.tick) (record b { tick = ticked b.tick }) ws tt)
   in_range n (Call.TickMode reinject) = λ b ws is. inl tt
   in_range n (Call.PortOut port len value) = minded_if (is_port port) (pair_write routing shape port len value) (ring routing shape Space.Port port len value) (acking (pair_write routing shape port len value) (pair_write_holds (pays r) routing shape (pays_accesses r shape) port len value)) (quietly (ring routing shape Space.Port port len value) (ringing Space.Port port len value))
   in_range n (Call.PortIn port len) = minded_if (is_port port) (pair_read routing shape port len) (reply Exit) (acking (pair_read routing shape port len) (pair_read_holds (pays r) routing shape (pays_accesses r shape) port len)) (quietly (reply Exit) (λ b ws fit. tt))

@@ -89,10 +89,6 @@ resamplers_at_most (row ∷ rows) = by_test (is_some row.resample) (resamplers_a
     by_test true h = omega (arith, h)
     by_test false h = omega (arith, h)
 
--- a resample counter of some irqfd is that of the list
-is_resample : (counter : ℕ) (rows : List Irqfd) → Any (λ (row : Irqfd). row.resample ≡ Some counter) rows → list_any (has_resample counter) rows ≡ true
-is_resample counter rows h1 = grind (arith, list_any-from_Any)
-
 module _ (counters : ℕ) (registry : RegistryPart) (few : counters ≤ 256) (fits : RegistrationsFit counters registry) (distinct : AreDistinct registry) where
   below : All (IsBelow counters) registry.irqfds
   below k d within = (fits.irqfds k d within).trigger
@@ -111,7 +107,7 @@ module _ (counters : ℕ) (registry : RegistryPart) (few : counters ≤ 256) (fi
   few_resamplers = elim (some_resample registry.irqfds) [
     | inl none ↦ omega (arith, none)
     | inr (counter, one) ↦
-        omega (arith, few, resamplers_at_most registry.irqfds, few_but_one counters counter registry.irqfds distinct.triggers below (low counter one) (other counter (is_resample counter registry.irqfds one)))
+        omega (arith, few, resamplers_at_most registry.irqfds, few_but_one counters counter registry.irqfds distinct.triggers below (low counter one) (other counter (grind (arith, list_any-from_Any, one))))
   ]
     where
       low : (counter : ℕ) → Any (λ (row : Irqfd). row.resample ≡ Some counter) registry.irqfds → counter < counters

@@ -213,7 +213,7 @@ module _ (routing : Routing) (shape : Shape) (q : Part) where
   -- ---- accesses to memory
 
   pub store_reach : (n address len value : ℕ) (b : Board) (ws : Wishes) → reaches (accesses.store routing shape n address len value) b ws q ≡ table.of_store acks.of_acknowledge_each routing shape b n address len value q
-  store_reach n address len value b ws = elim (is_ioapic_address address) as (λ t. reaches (if t then accesses.ioapic_store shape (address - 0xfec00000) len value else others) b ws q
+  store_reach n address len value b ws = elim (is_ioapic_address address) as (λ t. reaches (if t then accesses.ioapic_store shape (address - 0xfec00000) len value else (if is_lapic_address address then accesses.lapic_store routing shape n (address - 0xfee00000) len value else accesses.ring routing shape Space.Memory address len value)) b ws q
       ≡ (if t then is_same Ioapic q || (nat_eq len 4 && table.of_written acks.of_acknowledge_each routing shape b.ioapic (write_to (ioapic_of b.ioapic) (address - 0xfec00000) value) q) else of_others)) [
         | true ↦ ioapic_store_reach (address - 0xfec00000) len value b ws
         | false ↦ elim (is_lapic_address address) as (λ t. reaches (if t then accesses.lapic_store routing shape n (address - 0xfee00000) len value else accesses.ring routing shape Space.Memory address len value) b ws q
@@ -223,9 +223,6 @@ module _ (routing : Routing) (shape : Shape) (q : Part) where
             ]
       ]
     where
-      others : Plan (Unit {0})
-      others = if is_lapic_address address then accesses.lapic_store routing shape n (address - 0xfee00000) len value else accesses.ring routing shape Space.Memory address len value
-
       of_others : Bool
       of_others = if is_lapic_address address then is_same (Lapic n) q || (nat_eq len 4 && table.of_effect acks.of_acknowledge_each routing shape b n (store_effect (part_of b (Lapic n)) (address - 0xfee00000) value) q)
           else table.of_ring acks.of_acknowledge_each routing shape b Space.Memory address len value q

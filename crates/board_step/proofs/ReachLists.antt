@@ -181,7 +181,4 @@ module _ (routing : Routing) (shape : Shape) where
     acknowledges_are_now [] b apart marks = refl
     acknowledges_are_now (pin ∷ others) b apart marks = λ i.
         acknowledge_is_now routing shape b pin q marks i
-        || (acknowledges_are_now others (board_by (acknowledge routing shape pin) b) apart.1 still ∙ all_later b pin others apart.0 marks) i
-      where
-        still : MarksResamplers routing shape (board_by (acknowledge routing shape pin) b)
-        still = subst (λ r. (gsi : ℕ) → has_resampler r.irqfds gsi ≡ true → routing.marked gsi ≡ true) (sym (acknowledge_tells routing shape b.registry pin b [] refl).left) marks
+        || (acknowledges_are_now others (board_by (acknowledge routing shape pin) b) apart.1 (subst (λ r. (gsi : ℕ) → has_resampler r.irqfds gsi ≡ true → routing.marked gsi ≡ true) (sym (acknowledge_tells routing shape b.registry pin b [] refl).left) marks) ∙ all_later b pin others apart.0 marks) i

@@ -213,11 +213,8 @@ module _ (routing : Routing) (shape : Shape) where
       within_clear : Within clear pin
       within_clear h = ap (λ m. of_message m None shape.cpus q) (sym (again_is (pin_acked chip pin) pin message sent)) ∙ answer_within (pin_acked chip pin) pin shape.cpus q h
 
-      same_message : message_of (entry_at (pin_accepted (pin_acked chip pin) pin) pin) ≡ message
-      same_message = ap message_of (accepted_entry (pin_acked chip pin) pin pin) ∙ (grind arith) ∙ again_is (pin_acked chip pin) pin message sent
-
       within_again : Within again pin
-      within_again h = ap (λ m. of_message m None shape.cpus q) (sym same_message) ∙ answer_within (pin_accepted (pin_acked chip pin) pin) pin shape.cpus q h
+      within_again h = ap (λ m. of_message m None shape.cpus q) (sym (ap message_of (accepted_entry (pin_acked chip pin) pin pin) ∙ (grind arith) ∙ again_is (pin_acked chip pin) pin message sent)) ∙ answer_within (pin_accepted (pin_acked chip pin) pin) pin shape.cpus q h
 
       -- another pin answers the same
       elsewhere : (t : ℕ) → nat_eq pin t ≡ false → raise_of (ioapic_of again.ioapic) t ≡ raise_of (ioapic_of clear.ioapic) t

@@ -124,9 +124,6 @@ module _ (routing : Routing) (shape : Shape) (tells : TellsPins routing shape) (
   pair_now : (len : ℕ) (pin : Option ℕ) → table.of_pair of_acknowledge_each routing shape b len pin q ≡ table.of_pair of_acknowledges_now routing shape b len pin q
   pair_now len pin = ap (λ t. is_same Pic q || (nat_eq len 1 && t)) (acks_now (pic_pin pin) (pin_apart routing shape tells pin))
 
-  cycle_now : table.of_cycle of_acknowledge_each routing shape b q ≡ table.of_cycle of_acknowledges_now routing shape b q
-  cycle_now = acks_now (cycle_pins (cycle (pair_of b.pic)).pins) (cycle_apart routing shape tells (pair_of b.pic))
-
   counter_now : (trigger : Option TriggerWord) → table.of_counter of_acknowledge_each routing shape b trigger q ≡ table.of_counter of_acknowledges_now routing shape b trigger q
   counter_now trigger = grind arith
 
@@ -143,7 +140,7 @@ module _ (routing : Routing) (shape : Shape) (tells : TellsPins routing shape) (
   store_now n address len value = grind (arith, written_now, effect_now, ring_now)
 
   call_now : (n : ℕ) (call : Call) → table.of_call of_acknowledge_each routing shape b n call q ≡ table.of_call of_acknowledges_now routing shape b n call q
-  call_now n call = grind (arith, pair_now, ring_now, store_now, cycle_now, end_now)
+  call_now n call = grind (arith, pair_now, ring_now, store_now, (acks_now (cycle_pins (cycle (pair_of b.pic)).pins) (cycle_apart routing shape tells (pair_of b.pic))), end_now)
 
 -- where the registry is sound
 pub reach_by_registry : (b : Board) (caller : Caller) (call : Call) (q : Part) → IsSoundRegistry b.registry b.shape.tick → reach b caller call q ≡ reach_now b caller call q

@@ -38,17 +38,13 @@ module _ (b : Board) (caller : Caller) (ws : Wishes) where
   write_refused counter count refusal None is = is_refused _ _ refusal is
   write_refused counter count refusal (Some row) is = cc
 
-  -- a call in range that is refused
-  later_refused : (call : Call) (refusal : Refusal) → first_of (later_reasons b call) ≡ Some refusal → in_range call ≡ refused_outcome b ws refusal
-  later_refused call refusal h1 = grind (arith, write_refused, is_refused)
-
   -- a call that is refused
   call_refused : (call : Call) (refusal : Refusal) → refusal_of b call ≡ Some refusal → run (plan_on b caller call) b ws ≡ refused_outcome b ws refusal
   call_refused call refusal is = by_range (first_of (range_reasons b.shape call)) (sym (first_of_both (range_reasons b.shape call) (later_reasons b call)) ∙ is)
     where
       by_range : (range : Option Refusal) → or_else range (first_of (later_reasons b call)) ≡ Some refusal
           → run (unless_refused range (plan_in_range (routing_of_registry b.registry b.shape.tick) b.shape (number_of caller) call)) b ws ≡ refused_outcome b ws refusal
-      by_range None is = later_refused call refusal is
+      by_range None is = grind (arith, write_refused, is_refused, is)
       by_range (Some first) is = is_refused (Some first) (plan_in_range (routing_of_registry b.registry b.shape.tick) b.shape (number_of caller) call) refusal is
 
   -- ---- a call that is not refused

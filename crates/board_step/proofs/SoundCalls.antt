@@ -26,9 +26,6 @@ resamples_if b h1 = grind arith
 written_length : (io : Ioapic) (register : Register) (value : ℕ) → length (register_written io register value).after.entries ≡ length io.entries
 written_length io register value = grind (arith, length-set)
 
-write_length : (io : Ioapic) (offset value : ℕ) → length (write_to io offset value).after.entries ≡ length io.entries
-write_length io offset value = grind (arith, written_length)
-
 module _ (r : RegistryPart) (shape : Shape) (bound : ℕ) where
   -- that each part is as a sound board with this registry has it
   abbrev pub sound : Walk
@@ -78,7 +75,7 @@ module _ (r : RegistryPart) (shape : Shape) (bound : ℕ) where
       frees = λ b each. fits Part.Tick (tick_acked b.tick) b each (grind (arith, (each Part.Tick)));
       falls = λ status b each. fits Part.Tick (tick_injected b.tick status) b each (tick_injected_low b.tick status bound (each Part.Tick));
       pairs = λ pair b each. fits Part.Pic (with_pair b.pic pair) b each (each Part.Pic);
-      stores = λ offset value b each. fits Part.Ioapic (with_ioapic b.ioapic (write_to (ioapic_of b.ioapic) offset value).after) b each (record { entries = write_length (ioapic_of b.ioapic) offset value ∙ (each Part.Ioapic).entries; holds = (each Part.Ioapic).holds });
+      stores = λ offset value b each. fits Part.Ioapic (with_ioapic b.ioapic (write_to (ioapic_of b.ioapic) offset value).after) b each (record { entries = (grind (arith, written_length)) ∙ (each Part.Ioapic).entries; holds = (each Part.Ioapic).holds });
       registers = λ n offset value b each. fits (Part.Lapic n) (store_to (part_of b (Part.Lapic n)) offset value) b each (store_number (part_of b (Part.Lapic n)) offset value ∙ each (Part.Lapic n));
       services = λ n b each. let a : LocalApic = part_of b (Part.Lapic n) in fits (Part.Lapic n) (without_service a (greatest_vector a.isr)) b each (service_number a (greatest_vector a.isr) ∙ each (Part.Lapic n));
       nmis = λ n b each. fits (Part.Lapic n) (record (part_of b (Part.Lapic n)) { nmi = false }) b each (each (Part.Lapic n));

@@ -42,10 +42,6 @@ less_of a b e = grind arith
 none_more : {X : Type 0} (p : X → Bool) (xs : List X) (x : X) → list_any p xs ≡ false → p x ≡ false → list_any p (xs ++ x ∷ []) ≡ false
 none_more p xs x none off = list_any-append p xs (x ∷ []) ∙ or_both (list_any p xs) (p x || false) none (or_both (p x) false off refl)
 
--- a trigger that is signalled by no row is signalled by none with a notifier more of another counter
-roles_more : (f : ℕ → Bool) (rows : List Watch) (row : Watch) (all : List Irqfd) → All (λ (i : Irqfd). (f i.trigger || has_counter rows i.trigger) ≡ false) all → All (λ (i : Irqfd). has_trigger row.counter i ≡ false) all → All (λ (i : Irqfd). (f i.trigger || has_counter (rows ++ row ∷ []) i.trigger) ≡ false) all
-roles_more f rows row all h1 h2 = grind (arith, none_more)
-
 -- and with an irqfd more of another resample counter
 role_more : (rows : List Irqfd) (row : Irqfd) (g : Bool) (t : ℕ) → (list_any (has_resample t) rows || g) ≡ false → has_resample t row ≡ false → (list_any (has_resample t) (rows ++ row ∷ []) || g) ≡ false
 role_more rows row g t old off = let each = or_neither (list_any (has_resample t) rows) g old in or_both (list_any (has_resample t) (rows ++ row ∷ [])) g (none_more (has_resample t) rows row each.0 off) each.1
@@ -110,7 +106,7 @@ module _ (shape : Shape) (bound : ℕ) (b : Board) (ws : Wishes) (w : Whole shap
       (pairs_push (λ (row other : Watch). is_named_watch row.counter row.gsi other ≡ false) rows row w.fine.distinct.watches
       (All-weaker (λ (other : Watch). is_named_watch counter gsi other ≡ false) (λ (other : Watch). is_named_watch other.counter other.gsi row ≡ false) (λ other off. (grind (arith, off))) rows (each_fails (is_named_watch counter gsi) rows there.0)))
       (omega (arith, length-append rows (row ∷ []), (less_of 256 (length rows) (no_reason (nat_le 256 (length rows)) Full [] there.1).0)))
-      (roles_more (λ n. list_any (has_resample n) b.registry.irqfds) rows row b.registry.irqfds w.fine.distinct.roles (each_fails (has_trigger counter) b.registry.irqfds clash.0)))
+      (grind (arith, none_more, w.fine.distinct.roles, (each_fails (has_trigger counter) b.registry.irqfds clash.0))))
 
   pub unwatch_whole : (counter gsi : ℕ) → Whole shape bound (run (unwatch counter gsi) b ws).board
   unwatch_whole counter gsi = unless_whole shape bound b ws (first_of (unwatch_reasons b.registry counter gsi)) _ w (λ _.

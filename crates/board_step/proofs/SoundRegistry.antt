@@ -95,12 +95,6 @@ irqfd_resamples (x ∷ xs) c t e on =
 
 -- ---- pins
 
-route_pic : (pic ioapic : Option ℕ) (msi : Option MsiWord) (pin : ℕ) → pic ≡ Some pin → is_route_of pic ioapic msi ≡ true → pin < 16
-route_pic pic ioapic msi pin h1 h2 = grind (arith, ltb-true)
-
-route_ioapic : (pic ioapic : Option ℕ) (msi : Option MsiWord) (pin : ℕ) → ioapic ≡ Some pin → is_route_of pic ioapic msi ≡ true → pin < 24
-route_ioapic pic ioapic msi pin h1 h2 = grind (arith, ltb-true)
-
 -- a table is that of rows that keep the rules
 abbrev pub IsMade : Table → Type 0
 IsMade table = (rows : List Row) × (refusal_of rows ≡ None) × (table ≡ table_of rows)
@@ -130,6 +124,6 @@ pub may_hold : (r : RegistryPart) → IsSoundTable r.table → (gsi : ℕ) (sour
 may_hold r s gsi source resamples =
     let targets = targets_of r.table gsi in
     record {
-      pic = λ pin at. (route_pic targets.pic targets.ioapic targets.msi pin at (s.routes gsi), λ is. pic_resamples r s.made gsi pin at (resamples is));
-      ioapic = λ pin at. (route_ioapic targets.pic targets.ioapic targets.msi pin at (s.routes gsi), λ is. ioapic_resamples r s.made gsi pin at (resamples is));
+      pic = λ pin at. ((grind (arith, ltb-true, at, (s.routes gsi))), λ is. pic_resamples r s.made gsi pin at (resamples is));
+      ioapic = λ pin at. ((grind (arith, ltb-true, at, (s.routes gsi))), λ is. ioapic_resamples r s.made gsi pin at (resamples is));
     }

@@ -30,9 +30,6 @@ made_none n m k long sixteen twenty_four = record {
   stands = stands_none (replicate n 0) (replicate m 0) (replicate k 0) (zeros_at n) (zeros_at m) (zeros_at k);
 }
 
-owner_length : (owners : List ℕ) (pin : Option ℕ) (gsi : ℕ) → length (with_owner owners pin gsi) ≡ length owners
-owner_length owners pin gsi = grind (arith, length-set)
-
 pub both_none : (xs ys : List Reason) → first_of (xs ++ ys) ≡ None → (first_of xs ≡ None) × (first_of ys ≡ None)
 both_none [] ys e = (refl, e)
 both_none ((true, r) ∷ xs) ys e = cc
@@ -52,8 +49,8 @@ made_after earlier (row ∷ rows) m e typed =
       pics = with_owner m.pics (pic_in row) (gsi_in row);
       ioapics = with_owner m.ioapics (ioapic_in row) (gsi_in row);
       long = length-set m.words (gsi_in row) _ ∙ m.long;
-      sixteen = owner_length m.pics (pic_in row) (gsi_in row) ∙ m.sixteen;
-      twenty_four = owner_length m.ioapics (ioapic_in row) (gsi_in row) ∙ m.twenty_four;
+      sixteen = (grind (arith, length-set)) ∙ m.sixteen;
+      twenty_four = (grind (arith, length-set)) ∙ m.twenty_four;
       stands = stands-snoc m.words m.pics m.ioapics earlier row m.stands (kept_of earlier row parts.0) (fits row (All-head PayloadFits row rows typed)) m.long m.sixteen m.twenty_four;
     } in
     subst Made (append_assoc earlier (row ∷ []) rows) (made_after (earlier ++ row ∷ []) rows next parts.1 (All-tail PayloadFits row rows typed))

@@ -83,14 +83,11 @@ module _ (routing : Routing) (shape : Shape) (n : ℕ) (far : shape.cpus ≤ n) 
   far_level b (Pin.Pic pin) = refl
   far_level b (Pin.Ioapic pin) = and_false (entry_at (ioapic_of b.ioapic) pin).level _ (far_resend (resend_of (pin_acked (ioapic_of b.ioapic) pin) pin))
 
-  far_tick : (b : Board) (gsi : Option ℕ) → of_tick routing shape b gsi (Lapic n) ≡ false
-  far_tick b gsi = grind (arith, and_false, far_gsi)
-
   far_acknowledge : (b : Board) (pin : Pin) → of_acknowledge routing shape b pin (Lapic n) ≡ false
   far_acknowledge b pin =
       let gsi = routing.gsi_of pin in
       or_false (of_marked routing shape gsi (Lapic n)) _ (grind arith)
-      (or_false _ _ (far_level (board_by (tell_concerned routing gsi) b) pin) (far_tick (board_by (tell_concerned routing gsi >> end_level shape.cpus pin) b) gsi))
+      (or_false _ _ (far_level (board_by (tell_concerned routing gsi) b) pin) (grind (arith, and_false, far_gsi)))
 
   far_each : (b : Board) (acked : List Pin) → of_acknowledge_each routing shape b acked (Lapic n) ≡ false
   far_each b [] = refl
@@ -98,14 +95,8 @@ module _ (routing : Routing) (shape : Shape) (n : ℕ) (far : shape.cpus ≤ n) 
 
   -- ---- calls
 
-  far_end : (b : Board) (vector : Option ℕ) → of_end of_acknowledge_each routing shape b vector (Lapic n) ≡ false
-  far_end b vector = grind (arith, far_each)
-
   far_counter : (b : Board) (trigger : Option TriggerWord) → of_counter of_acknowledge_each routing shape b trigger (Lapic n) ≡ false
   far_counter b trigger = grind (arith, far_gsi)
-
-  far_write : (b : Board) (trigger : Option TriggerWord) (count : ℕ) → of_write of_acknowledge_each routing shape b trigger count (Lapic n) ≡ false
-  far_write b trigger count = grind (arith, and_false, far_gsi)
 
   far_pair : (b : Board) (len : ℕ) (pin : Option ℕ) → of_pair of_acknowledge_each routing shape b len pin (Lapic n) ≡ false
   far_pair b len pin = and_false (nat_eq len 1) _ (far_each b (pic_pin pin))
@@ -113,11 +104,8 @@ module _ (routing : Routing) (shape : Shape) (n : ℕ) (far : shape.cpus ≤ n) 
   far_written : (part : IoapicPart) (written : Written) → of_written of_acknowledge_each routing shape part written (Lapic n) ≡ false
   far_written part written = grind (arith, far_resend)
 
-  far_rung : (b : Board) (counter : Option ℕ) → of_rung of_acknowledge_each routing shape b counter (Lapic n) ≡ false
-  far_rung b counter = grind (arith, far_counter)
-
   far_ring : (b : Board) (space : Space) (address len value : ℕ) → of_ring of_acknowledge_each routing shape b space address len value (Lapic n) ≡ false
-  far_ring b space address len value = far_rung b (rung_by b.registry.ioevents space address len value)
+  far_ring b space address len value = grind (arith, far_counter)
 
   far_cycle : (b : Board) → of_cycle of_acknowledge_each routing shape b (Lapic n) ≡ false
   far_cycle b = far_each b (cycle_pins (cycle (pair_of b.pic)).pins)
@@ -125,7 +113,7 @@ module _ (routing : Routing) (shape : Shape) (n : ℕ) (far : shape.cpus ≤ n) 
   module _ (m : ℕ) (own : nat_eq m n ≡ false) where
     far_effect : (b : Board) (effect : Effect) → of_effect of_acknowledge_each routing shape b m effect (Lapic n) ≡ false
     far_effect b LapicEffect.Plain = refl
-    far_effect b (LapicEffect.Ended vector) = far_end b vector
+    far_effect b (LapicEffect.Ended vector) = grind (arith, far_each)
     far_effect b (LapicEffect.Send ipi) = far_message n shape.cpus far ipi.message (Some (m, ipi.to))
 
     far_store : (b : Board) (address len value : ℕ) → of_store of_acknowledge_each routing shape b m address len value (Lapic n) ≡ false
@@ -144,7 +132,7 @@ module _ (routing : Routing) (shape : Shape) (n : ℕ) (far : shape.cpus ≤ n) 
   far_call b m (Call.Line gsi line true) own = far_gsi b gsi
   far_call b m (Call.Line gsi line false) own = far_fall n shape.cpus far (routing.targets gsi)
   far_call b m (Call.Msi address payload) own = far_message n shape.cpus far (message_in address payload) None
-  far_call b m (Call.Write counter count) own = far_write b (routing.trigger counter) count
+  far_call b m (Call.Write counter count) own = grind (arith, and_false, far_gsi)
   far_call b m (Call.Assign trigger gsi resample) own = and_false (does_inject of_acknowledge_each routing shape b trigger resample) _ (far_gsi b gsi)
   far_call b m (Call.Deassign trigger gsi) own = far_release b gsi _
   far_call b m Call.Tick own = and_false (tick_injects b.tick) _ (far_gsi b shape.tick)
@@ -154,7 +142,7 @@ module _ (routing : Routing) (shape : Shape) (n : ℕ) (far : shape.cpus ≤ n) 
   far_call b m (Call.Load address len) own = far_load m (own refl) address
   far_call b m Call.Ack own = far_ack m (own refl) b (part_of b (Lapic m))
   far_call b m Call.Inta own = far_cycle b
-  far_call b m Call.Eoi own = or_false (nat_eq m n) _ (own refl) (far_end b (greatest_vector (part_of b (Lapic m)).isr))
+  far_call b m Call.Eoi own = or_false (nat_eq m n) _ (own refl) (grind (arith, far_each))
   far_call b m _ own = refl
 
 -- ---- callers
