@@ -1,5 +1,5 @@
 -- What a call in code did is what a body has to do.
-use Rattle.board_step.proofs.Basics.{◌≡◌, ℕ, ◌+◌, ◌^◌, ◌≤◌, true, false, not, ◌&&◌, ◌||◌, if◌then◌else◌, ◌++◌, List, [], ◌∷◌, Ok, Err, Some, None, refl, sym, ap, ◌∙◌, subst, arith, Result, IfSome, is_some, find, list_any, Option, Irqfd, Reason, first_of, Call, Caller, Event, Refusal, Reply, Refused, Shape, with_told, TickState, Lacks, is_named, named_row, Board, Parts, Plan, Wishes, OnParts, gives, lacks, run_on, number_of, plan_in_range, FitsShape, FitsButTick, range_reasons, unless_refused, TellsOn, option_or, told-none, routing_of_words, plan_by, Did, BodyLeads, later_reasons, does_publish, publishes_unless, would_publish}
+use Rattle.board_step.proofs.Basics.{◌≡◌, ℕ, true, false, not, ◌&&◌, ◌||◌, if◌then◌else◌, ◌++◌, List, [], ◌∷◌, Ok, Err, Some, None, refl, sym, ap, ◌∙◌, subst, arith, Result, is_some, find, list_any, Option, Irqfd, Reason, first_of, Call, Caller, Event, Refusal, Reply, Refused, Shape, with_told, Lacks, is_named, named_row, Board, Parts, Plan, Wishes, OnParts, gives, lacks, run_on, number_of, plan_in_range, FitsShape, FitsButTick, range_reasons, unless_refused, TellsOn, option_or, told-none, routing_of_words, plan_by, Did, BodyLeads, later_reasons, does_publish, publishes_unless, would_publish}
 use Rattle.board_raise.specs.declared.parts.Parts as code
 use Rattle.board_step.proofs.BodySteps.{done_leads}
 

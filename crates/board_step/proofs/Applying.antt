@@ -1,5 +1,5 @@
 -- One call on a board in code is one step of it.
-use Rattle.board_step.proofs.Basics.{◌≡◌, ℕ, ◌+◌, ◌<◌, Bool, true, false, true≢false, nat_lt, List, [], ◌∷◌, Ok, Some, None, refl, sym, ap, ◌∙◌, subst, arith, nat_tests, IfSome, unwrap_or, Option, is_allowed, Call, Caller, Event, Reply, Part, Registry, Lapic, BoardRig, LacksReached, Board, part_of, Parts, published, Wishes, run_on, words_in, Fits, registry_of, parts_of, chips_of, CodeParts, BodyLeads, FitsShape, FitsButTick, TellsOn, is_some, Applied, Ran, MayCall, plan_by, entry_of, Stepped, opening_registry, IsTyped, board_in, IsKept, spent_by, reach, would_publish, spent_of, Step, is_part}
+use Rattle.board_step.proofs.Basics.{◌≡◌, ◌+◌, Bool, true, false, true≢false, List, [], ◌∷◌, Ok, Some, None, refl, sym, ap, ◌∙◌, subst, arith, nat_tests, IfSome, unwrap_or, Option, is_allowed, Call, Caller, Event, Reply, Part, Registry, Lapic, BoardRig, LacksReached, Board, part_of, Parts, published, Wishes, run_on, words_in, Fits, registry_of, parts_of, chips_of, CodeParts, BodyLeads, FitsShape, FitsButTick, TellsOn, is_some, Applied, Ran, MayCall, plan_by, entry_of, Stepped, opening_registry, IsTyped, board_in, IsKept, spent_by, reach, would_publish, spent_of, Step, is_part}
 use Rattle.board_step.specs.declared.board.Board.TheInside.{Inside}
 use Rattle.board_step.proofs.Answered.{tells_did}
 use Rattle.board_step.proofs.Applied.{kept_is_of, published_by, after_call, applied_steps, applied_kept, words_left, words_anew}

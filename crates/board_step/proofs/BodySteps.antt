@@ -1,5 +1,5 @@
 -- One law for all bodies, from exactness on parts, the table of reach and the published words.
-use Rattle.board_step.proofs.Basics.{◌≡◌, ℕ, Bool, true, false, List, [], ◌∷◌, length, refl, sym, ap, ◌∙◌, subst, Ok, Err, arith, Result, Call, Caller, Event, Reply, Shape, with_told, Lacks, Board, Parts, part_in, all_parts, Wishes, Log, run, reaches, OnParts, gives, lacks, run_on, LacksReached, plan_of, Agrees, Exact, exact_on_parts, words_tell, would_publish, with_counts, plan_on, counted, reach, Ran, IsOf, IsWorth, plan_by, IsStepFrom, BodiesStep, Did, LeadsFrom, DoneLeads}
+use Rattle.board_step.proofs.Basics.{◌≡◌, ℕ, List, [], ◌∷◌, length, refl, sym, ap, ◌∙◌, subst, Ok, Err, arith, Result, Call, Caller, Event, Reply, Shape, with_told, Lacks, Board, Parts, part_in, Wishes, Log, run, reaches, OnParts, gives, lacks, run_on, LacksReached, plan_of, Agrees, Exact, exact_on_parts, words_tell, plan_on, counted, reach, Ran, IsOf, IsWorth, plan_by, IsStepFrom, BodiesStep, Did, LeadsFrom, DoneLeads}
 use Rattle.board_step.proofs.CountingAnswers.{answers_once}
 use Rattle.board_step.proofs.ReachCalls.{reach_is_table}
 

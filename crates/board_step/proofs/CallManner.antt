@@ -1,5 +1,5 @@
 -- What each call does keeps to a manner.
-use Rattle.board_step.proofs.Basics.{◌≡◌, ℕ, Bool, true, false, not, ◌&&◌, ◌||◌, List, refl, sym, ap, ◌∙◌, arith, Some, None, Option, first_of, Call, Caller, Reply, Shape, TriggerWord, RegistryPart, Routing, nobody, injected, ipi, the_reply, Plan, reply, range_reasons, write, assigned, number_of, plan_in_range, plan_of, Manner, shows_there, sets_replied, is_refusal, Keeps, keeps_bind, send_keeps, let_go_keeps, lower_keeps, raise_keeps, inject_keeps, tick_keeps, in_event, resend_keeps, each_keeps}
+use Rattle.board_step.proofs.Basics.{◌≡◌, ℕ, Bool, true, false, not, ◌&&◌, ◌||◌, List, refl, sym, ap, ◌∙◌, arith, Some, None, Option, first_of, Call, Caller, Reply, Shape, TriggerWord, RegistryPart, Routing, nobody, injected, ipi, the_reply, reply, range_reasons, write, assigned, number_of, plan_in_range, plan_of, Manner, shows_there, sets_replied, is_refusal, Keeps, keeps_bind, send_keeps, let_go_keeps, lower_keeps, raise_keeps, inject_keeps, tick_keeps, in_event, resend_keeps, each_keeps}
 pub use Rattle.board_step.proofs.CallRules.{replies_in, writes_in, refuses_in}
 use Rattle.board_step.proofs.CallRules.{Rules, unless, triggered, assigned_rules, in_range}
 

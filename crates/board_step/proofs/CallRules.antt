@@ -1,5 +1,5 @@
 -- What holds of the parts of calls, whatever their looks give, holds of calls.
-use Rattle.board_step.proofs.Basics.{◌≡◌, ℕ, ◌+◌, ◌-◌, ◌≤◌, Bool, true, false, nat_eq, nat_lt, if◌then◌else◌, List, refl, arith, Some, None, Option, slice_index, is_some, greatest_vector, first_of, Call, Caller, Space, Line, Resample, Message, Source, Targets, Rang, Refusal, Reply, Refused, Done, Count, Empty, Removed, Value, Exit, Vector, Extint, Nmi, Ended, Nothing, Held, Part, Registry, Counters, Tick, Pic, Ioapic, Lapic, Shape, Shorthand, IoapicChip, Pair, LapicEffect, TickState, Irqfd, TriggerWord, is_port, pair_write_to, pair_read_from, has_output, cycle, write_to, resend_of, LocalApic, store_to, store_effect, giveable_of, without_service, message_in, what_is_read, taken, ticked, tick_injects, rung_by, named_row, without_row, RegistryPart, Routing, PicPart, pair_of, ioapic_of, nobody, injected, ipi, the_reply, ValueOf, is_same, Plan, done, look, put, tell, reply, ◌>>=◌, ◌>>◌, send, raise, inject, inject_tick, resend, let_go, lower, acknowledge_each, range_reasons, write_reasons, assign_reasons, attach_reasons, detach_reasons, watch_reasons, unwatch_reasons, is_ioapic_address, is_lapic_address, unless_refused, line_set, message_sent, source_of, trigger_written, write, read_reply, take, inject_count, assigned, was_last_resampler, release, deassigned, tick_or_hold, tick, pins_with, end_vector, ended_reply, end_of_interrupt, pic_pin, cycle_pins, cycle_made, inta, given_reply, give, hears_pair, give_of_pair, take_nmi, next_interrupt, pair_written, pair_write, pair_gave, pair_read, resend_written, ioapic_written, ioapic_store, ioapic_load, store_effects, lapic_stored, lapic_store, lapic_load, ring_counter, rung, ring, port_out, port_in, store, load, number_of, io_row, plan_in_range, plan_of, sets_replied, is_refusal}
+use Rattle.board_step.proofs.Basics.{◌≡◌, ℕ, ◌+◌, ◌-◌, ◌≤◌, Bool, true, false, nat_eq, nat_lt, if◌then◌else◌, List, refl, arith, Some, None, Option, slice_index, is_some, greatest_vector, first_of, Call, Space, Line, Resample, Message, Source, Targets, Rang, Refusal, Reply, Refused, Done, Count, Empty, Removed, Value, Exit, Vector, Extint, Nmi, Ended, Nothing, Held, Part, Registry, Counters, Tick, Pic, Ioapic, Lapic, Shape, Shorthand, IoapicChip, Pair, LapicEffect, TickState, Irqfd, TriggerWord, is_port, pair_write_to, pair_read_from, has_output, cycle, write_to, resend_of, LocalApic, store_to, store_effect, giveable_of, without_service, message_in, what_is_read, taken, ticked, tick_injects, rung_by, named_row, without_row, RegistryPart, Routing, PicPart, pair_of, ioapic_of, nobody, injected, ipi, the_reply, ValueOf, is_same, Plan, done, look, put, tell, reply, ◌>>=◌, ◌>>◌, send, raise, inject, inject_tick, resend, let_go, lower, acknowledge_each, write_reasons, assign_reasons, attach_reasons, detach_reasons, watch_reasons, unwatch_reasons, is_ioapic_address, is_lapic_address, unless_refused, line_set, message_sent, source_of, trigger_written, write, read_reply, inject_count, assigned, was_last_resampler, release, deassigned, tick_or_hold, pins_with, end_vector, ended_reply, end_of_interrupt, pic_pin, cycle_pins, cycle_made, given_reply, give, hears_pair, give_of_pair, take_nmi, next_interrupt, pair_written, pair_write, pair_gave, pair_read, resend_written, ioapic_written, ioapic_store, ioapic_load, store_effects, lapic_stored, lapic_store, lapic_load, ring_counter, rung, ring, store, load, io_row, plan_in_range, sets_replied, is_refusal}
 
 -- ---- the kinds of calls
 

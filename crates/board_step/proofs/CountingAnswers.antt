@@ -1,5 +1,5 @@
 -- Each call answers exactly once, and on a sound board it tells at most 560 events.
-use Rattle.board_step.proofs.Basics.{◌≡◌, ℕ, ◌+◌, ◌≤◌, List, [], ◌∷◌, length, map, refl, subst, arith, Pin, Shape, Call, Caller, Event, Reply, has_vector, Board, Wishes, run, RegistryPart, Routing, routing_of_registry, all_pins, IoapicPin as Ioapic, Told, each_events, plan_on, outcome_of, counted, IsSound, AnswersOnce, AlwaysAnswers, StepsTellFew}
+use Rattle.board_step.proofs.Basics.{◌≡◌, ℕ, ◌+◌, ◌≤◌, List, [], ◌∷◌, length, map, refl, subst, arith, Pin, Shape, Call, Caller, Event, Reply, has_vector, Board, Wishes, run, RegistryPart, Routing, routing_of_registry, all_pins, IoapicPin as Ioapic, Told, each_events, plan_on, counted, IsSound, AnswersOnce, AlwaysAnswers, StepsTellFew}
 use Rattle.board_step.proofs.CountingCalls.{Any, Bounds, call_tells}
 use Rattle.board_step.proofs.CountingRows.{resamplers, each_events-apart, each_events-some}
 use Rattle.board_step.proofs.CountingTriggers.{few_resamplers}

@@ -1,5 +1,5 @@
 -- Every call answers exactly once, and tells few events besides those of its acknowledges.
-use Rattle.board_step.proofs.Basics.{◌≡◌, ℕ, ◌+◌, ◌≤◌, Bool, true, false, true≢false, List, refl, sym, ◌∙◌, arith, Some, None, Option, first_of, Call, Caller, Rang, Pin, Part, Registry, Refusal, Refused, Shape, IoapicChip, Pair, cycle, RegistryPart, Routing, Board, part_of, with_part, injected, ipi, the_reply, Plan, reply, ◌>>=◌, Wishes, run, send, raise, inject, inject_tick, resend, let_go, lower, acknowledge_each, range_reasons, unless_refused, pins_with, pic_pin, cycle_pins, number_of, plan_in_range, plan_of, Told, Tells, IsKind, tells_both, tells_more, send_tells, let_go_tells, lower_tells, raise_tells, inject_tells, HasRegistry, each_events, tell_tells, resend_tells, inject_tick_tells, registry_kind, each_tells}
+use Rattle.board_step.proofs.Basics.{◌≡◌, ℕ, ◌+◌, ◌≤◌, Bool, true, false, true≢false, List, refl, sym, ◌∙◌, arith, Some, None, Option, first_of, Call, Caller, Rang, Pin, Registry, Refusal, Shape, IoapicChip, Pair, cycle, RegistryPart, Routing, Board, part_of, with_part, injected, ipi, the_reply, Plan, ◌>>=◌, Wishes, run, send, raise, inject, inject_tick, resend, let_go, lower, acknowledge_each, range_reasons, unless_refused, pins_with, pic_pin, cycle_pins, number_of, plan_in_range, plan_of, Told, Tells, IsKind, tells_both, tells_more, send_tells, let_go_tells, lower_tells, raise_tells, inject_tells, HasRegistry, each_events, tell_tells, resend_tells, inject_tick_tells, registry_kind, each_tells}
 use Rattle.board_step.proofs.CallRules.{Rules, Acks, writes_in, in_range}
 
 -- every board

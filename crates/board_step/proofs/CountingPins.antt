@@ -1,5 +1,5 @@
 -- The pins that one call acknowledges have different GSIs.
-use Rattle.board_step.proofs.Basics.{◌≡◌, ℕ, zero, suc, ◌+◌, ◌≤◌, Bool, true, false, cond, nat_eq, nat_lt, if◌then◌else◌, List, [], ◌∷◌, ◌++◌, length, map, refl, sym, ap, ◌∙◌, subst, arith, Some, None, Option, nat_tests, Pin, Targets, Pair, Slave, top_of, level_acknowledged, slave_pin, master_top, acked_pins, slave_cycle, cycle_by, cycle, Table, targets_of, has_pin, gsi_of, numbers_below, pic_pin, cycle_pins, find, PicPin as Pic, IoapicPin as Ioapic, is_same_pin as is_same}
+use Rattle.board_step.proofs.Basics.{◌≡◌, ℕ, zero, suc, ◌+◌, ◌≤◌, Bool, true, false, cond, nat_eq, nat_lt, if◌then◌else◌, List, [], ◌∷◌, ◌++◌, length, map, refl, ap, ◌∙◌, subst, arith, Some, None, Option, nat_tests, Pin, Targets, Pair, Slave, top_of, level_acknowledged, slave_pin, master_top, acked_pins, slave_cycle, cycle_by, cycle, Table, targets_of, has_pin, gsi_of, numbers_below, pic_pin, cycle_pins, find, PicPin as Pic, IoapicPin as Ioapic, is_same_pin as is_same}
 use Rattle.std.specs.FinMap as finmap
 use Rattle.board_step.proofs.CountingRows.{total, total_at_most, counted_at, AreApart, again_total}
 

@@ -1,5 +1,5 @@
 -- The rows of different GSIs are different rows: the events of acknowledges of pins whose GSIs differ are few.
-use Rattle.board_step.proofs.Basics.{◌≡◌, ℕ, ◌+◌, ◌≤◌, Bool, true, false, cond, nat_eq, if◌then◌else◌, List, [], ◌∷◌, length, map, filter, refl, sym, ap, ◌∙◌, subst, arith, Some, None, is_some, cons_option, Option, Resampled, Watched, Pin, Shape, Irqfd, Watch, resampled, resample_events, watch_events, RegistryPart, Routing, rows_for, ticks_for, again_for, each_events}
+use Rattle.board_step.proofs.Basics.{◌≡◌, ℕ, ◌+◌, ◌≤◌, Bool, true, false, cond, nat_eq, if◌then◌else◌, List, [], ◌∷◌, length, map, filter, refl, sym, ap, ◌∙◌, subst, arith, Some, None, is_some, Option, Watched, Pin, Shape, Irqfd, Watch, resample_events, watch_events, RegistryPart, Routing, rows_for, ticks_for, again_for, each_events}
 
 -- ---- totals over a list
 

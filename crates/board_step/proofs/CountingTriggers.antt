@@ -1,5 +1,5 @@
 -- A sound registry has at most 255 irqfds with a resample counter: their triggers differ, and no resample counter is a trigger.
-use Rattle.board_step.proofs.Basics.{◌≡◌, ℕ, suc, ◌+◌, ◌≤◌, ◌<◌, Bool, true, false, ◌||◌, nat_eq, if◌then◌else◌, List, [], ◌∷◌, length, map, All, get_or, ◌⊎◌, inl, inr, refl, sym, ap, ◌∙◌, subst, arith, Some, None, is_some, AllPairs, IfSome, list_any, AllByRecursion, Option, nat_tests, All-head, All-tail, Irqfd, has_trigger, RegistryPart, RegistrationsFit, is_counter, has_resample, Any, eqb, suc-le-suc, zero-le, IsDistinct, list_any-from_Any, IsDistinct-cons, length-le_from_distinct_below, AreDistinct}
+use Rattle.board_step.proofs.Basics.{◌≡◌, ℕ, suc, ◌+◌, ◌≤◌, ◌<◌, Bool, true, false, ◌||◌, nat_eq, if◌then◌else◌, List, [], ◌∷◌, length, map, All, get_or, ◌⊎◌, inl, inr, refl, sym, ap, subst, arith, Some, None, is_some, AllPairs, IfSome, list_any, AllByRecursion, Option, nat_tests, All-head, All-tail, Irqfd, has_trigger, RegistryPart, RegistrationsFit, has_resample, Any, eqb, suc-le-suc, zero-le, IsDistinct, list_any-from_Any, IsDistinct-cons, length-le_from_distinct_below, AreDistinct}
 use Rattle.board_step.proofs.CountingRows.{total, resample_weight, resamplers}
 
 -- ---- numbers that differ and are below a bound

@@ -1,5 +1,5 @@
 -- An Ack answers what is due.
-use Rattle.board_step.proofs.Basics.{routing_on, ◌≡◌, ℕ, ◌<◌, zero, suc, Bool, true, false, true≢false, ◌&&◌, if◌then◌else◌, List, [], ◌∷◌, ◌++◌, map, length, Some, None, refl, sym, ap, ◌∙◌, arith, IfSome, unwrap_or, Option, Ack, Cpu, Reply, Pic, Lapic, Pair, has_output, Cycle, cycle, Holds, LocalApic, power_on, giveable_of, Board, part_of, with_part, pair_of, with_pair, flat, Routing, routing_of_registry, Plan, reply, ◌>>◌, Wishes, Outcome, run, PairFits, acknowledge_each, cycle_pins, cycle_made, give, given_reply, hears_pair, give_of_pair, take_nmi, slice_get, is_some, option_map, pic_of, apic_in, run-bind, opening_pic, board_in, IsKept, given_due, due_by, due_in, IsDue, AnswersDue}
+use Rattle.board_step.proofs.Basics.{routing_on, ◌≡◌, ℕ, ◌<◌, zero, suc, Bool, true, false, true≢false, ◌&&◌, if◌then◌else◌, List, [], ◌∷◌, ◌++◌, map, length, Some, None, refl, sym, ap, ◌∙◌, arith, IfSome, unwrap_or, Option, Ack, Cpu, Reply, Pic, Lapic, Pair, has_output, Cycle, cycle, Holds, LocalApic, power_on, giveable_of, Board, part_of, with_part, pair_of, with_pair, flat, Plan, reply, ◌>>◌, Wishes, Outcome, run, PairFits, acknowledge_each, cycle_pins, cycle_made, give, given_reply, hears_pair, give_of_pair, take_nmi, slice_get, is_some, option_map, pic_of, apic_in, run-bind, opening_pic, board_in, IsKept, given_due, due_by, due_in, IsDue, AnswersDue}
 use Rattle.board_step.proofs.Basics.pic
 use Rattle.board_step.specs.declared.due.Due.{Due}
 use Rattle.board_step.specs.declared.due.Due.TheVariants as dues

@@ -1,5 +1,5 @@
 -- What a face over a board on one thread keeps.
-use Rattle.board_step.proofs.Basics.{◌≡◌, ℕ, ◌+◌, ◌-◌, ◌<◌, ◌≤◌, Bool, true, false, true≢false, ◌&&◌, nat_eq, if◌then◌else◌, List, Some, None, refl, sym, ap, ◌∙◌, subst, arith, nat_tests, Option, Call, Caller, Event, Entry, Refusal, Spent, Calls, Publications, Board, is_there, may_publish, DoneCall as Done, Applied, is_reached, entry_of, KeepsTheFrame, publishes_unless, refusal_on as refusal_of, would_publish, spent_of, is_publication}
+use Rattle.board_step.proofs.Basics.{◌≡◌, ℕ, ◌+◌, ◌-◌, ◌<◌, ◌≤◌, Bool, true, false, ◌&&◌, nat_eq, if◌then◌else◌, List, Some, None, refl, sym, ap, ◌∙◌, subst, arith, nat_tests, Option, Call, Caller, Event, Entry, Refusal, Spent, Calls, Publications, Board, is_there, may_publish, DoneCall as Done, Applied, is_reached, entry_of, KeepsTheFrame, publishes_unless, refusal_on as refusal_of, would_publish, spent_of}
 use Rattle.board_step.proofs.Publishing.{steps_show_publications, steps_keep_the_frame}
 
 some_none : {A : Type 0} (x : A) → Some x ≡ None → ⊥

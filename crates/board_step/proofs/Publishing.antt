@@ -1,5 +1,5 @@
 -- A step shows in its entry whether it is a publication; a publication reaches the registry; a step keeps the frame.
-use Rattle.board_step.proofs.Basics.{routing_on, ◌≡◌, ℕ, ◌+◌, Bool, true, false, not, ◌&&◌, if◌then◌else◌, cond, List, [], ◌∷◌, ◌++◌, length, Some, None, refl, sym, ap, ◌∙◌, arith, Option, Reason, first_of, Call, Caller, Refusal, Reply, Done, Removed, Refused, Nothing, Registry, Irqfd, Board, Routing, routing_of_registry, Plan, reply, ◌>>◌, Wishes, Outcome, run, of_acknowledge_each, range_reasons, unless_refused, inject_count, assigned, was_last_resampler, release, deassigned, number_of, plan_in_range, is_some, zero-add, count_by, sum_by-cons, SameFrame, run-bind, frame_stays, later_reasons, refusal_on as refusal_of, does_publish, publishes_unless, would_publish, plan_on, outcome_of, with_counts, counted, is_done, is_removed, did_publish, is_publication, reach, of_call, opening, StepsShowPublications, PublicationsReachTheRegistry, StepsKeepTheFrame, HistoriesKeepTheFrame, LegalHistoriesCount, spent_by, LimitsAreTold, words, WordsStayAlong, named_row, without_row}
+use Rattle.board_step.proofs.Basics.{routing_on, ◌≡◌, ◌+◌, Bool, true, false, if◌then◌else◌, cond, List, [], ◌∷◌, ◌++◌, length, Some, None, refl, sym, ap, ◌∙◌, arith, Option, Reason, first_of, Call, Caller, Refusal, Reply, Done, Removed, Nothing, Registry, Irqfd, Board, Plan, reply, ◌>>◌, Wishes, Outcome, run, range_reasons, unless_refused, inject_count, assigned, was_last_resampler, release, deassigned, number_of, plan_in_range, is_some, zero-add, count_by, sum_by-cons, SameFrame, run-bind, frame_stays, later_reasons, refusal_on as refusal_of, does_publish, publishes_unless, would_publish, plan_on, outcome_of, with_counts, counted, is_done, is_removed, did_publish, is_publication, reach, opening, StepsShowPublications, PublicationsReachTheRegistry, StepsKeepTheFrame, HistoriesKeepTheFrame, LegalHistoriesCount, spent_by, LimitsAreTold, words, WordsStayAlong, named_row, without_row}
 use Rattle.board_step.proofs.Refusing.{refuses_first}
 use Rattle.board_step.proofs.SoundOpening.{apics_many}
 use Rattle.board_step.proofs.WordsStay.{words_stay}

@@ -1,5 +1,5 @@
 -- What an acknowledge changes of the I/O APIC is of its own pins: it leaves the others as they are.
-use Rattle.board_step.proofs.Basics.{◌≡◌, ℕ, Bool, true, false, not, ◌&&◌, ◌||◌, nat_eq, nat_lt, if◌then◌else◌, inl, inr, refl, sym, ap, ◌∙◌, subst, arith, Some, None, Option, unsigned_Decides, contains-insert, contains-remove, eq_by_cmp, contains-set_below, Pin, Message, MsiWord, Source, Resample, TickSource, Tick, Ioapic, Shape, Raise, entry_at, raise_of, pin_acked, pin_accepted, has_resampler, message_in, Holds as PinHolds, hold, hold_cmp, is_high, ack_injects, tick_acked, tick_injected, Board, with_part, IoapicPart, ioapic_of, with_ioapic, Routing, nobody, TargetAnswer, status_of, About, injected, resent, ipi, the_reply, Plan, done, change, ◌>>=◌, ◌>>◌, Wishes, Outcome, run, show, send, ioapic_raised, ioapic_let_go, is_accepted, accept_pin, answer_shown, ioapic_answered, raise_pic, raise_other, raise, let_go, let_go_after, inject, tell_concerned, end_level, end_tick, acknowledge, inject_tick, inject_next, acknowledge_tick, entry_ended, ◌⊎◌, hold_cmp_total, high_where_held, held_where_high, run-bind, pin_freed, part_freed, contains}
+use Rattle.board_step.proofs.Basics.{◌≡◌, ℕ, Bool, true, false, not, ◌&&◌, ◌||◌, nat_eq, nat_lt, if◌then◌else◌, inl, inr, refl, sym, ap, ◌∙◌, subst, arith, Some, None, Option, unsigned_Decides, contains-insert, contains-remove, eq_by_cmp, contains-set_below, Pin, Message, MsiWord, Source, Resample, TickSource, Tick, Ioapic, Shape, Raise, entry_at, raise_of, pin_acked, pin_accepted, has_resampler, message_in, Holds as PinHolds, hold, hold_cmp, is_high, ack_injects, tick_acked, tick_injected, Board, with_part, IoapicPart, ioapic_of, with_ioapic, Routing, nobody, TargetAnswer, status_of, About, injected, the_reply, Plan, done, change, ◌>>=◌, ◌>>◌, Wishes, Outcome, run, show, send, ioapic_raised, ioapic_let_go, is_accepted, accept_pin, answer_shown, ioapic_answered, raise_pic, raise_other, raise, let_go, let_go_after, inject, tell_concerned, end_level, end_tick, acknowledge, inject_tick, inject_next, acknowledge_tick, entry_ended, ◌⊎◌, hold_cmp_total, high_where_held, held_where_high, run-bind, pin_freed, part_freed, contains}
 use Rattle.board_step.proofs.ReachPins.{irr_cleared, irr_accepted, acked_entry, accepted_entry, sent_registry, sent_ioapic, MarksResamplers, told_holds, SentAgain, level_ends}
 
 -- ---- one pin of the I/O APIC that stays

@@ -1,5 +1,5 @@
 -- What each call reaches is what the table says, whatever is wished.
-use Rattle.board_step.proofs.Basics.{routing_on, ◌≡◌, ℕ, Bool, true, false, not, ◌&&◌, ◌||◌, nat_eq, nat_lt, if◌then◌else◌, [], ◌∷◌, ◌++◌, refl, sym, ap, ◌∙◌, Some, None, slice_index, is_some, Option, greatest_vector, first_of, Call, Refusal, Done, Removed, Extint, Vector, Part, Registry, Counters, Tick, Pic, Ioapic, Lapic, Shape, TickState, Irqfd, TriggerWord, has_output, cycle, LocalApic, message_in, tick_injects, ticked, taken, written, named_row, without_row, with_row, Board, part_of, with_part, is_same, pair_of, with_pair, Routing, routing_of_registry, injected, the_reply, Plan, reply, ◌>>◌, Wishes, reaches, send, raise, inject, let_go, of_message, of_fall, assign_reasons, write_reasons, attach_reasons, detach_reasons, watch_reasons, unwatch_reasons, range_reasons, unless_refused, source_of, assigned, inject_count, was_last_resampler, release, deassigned, tick_or_hold, end_vector, cycle_pins, cycle_made, hears_pair, give, give_of_pair, take_nmi, io_row, number_of, plan_in_range, set, or_false, sends_reach, signals_reach_the_same, ReachIsTable, gsi_same, twice, inject_tick_reach, Source, without_ioevent, with_watch, without_watch}
+use Rattle.board_step.proofs.Basics.{routing_on, ◌≡◌, ℕ, Bool, true, false, not, ◌&&◌, ◌||◌, nat_eq, nat_lt, if◌then◌else◌, [], ◌∷◌, ◌++◌, refl, sym, ap, ◌∙◌, Some, None, slice_index, is_some, Option, greatest_vector, first_of, Call, Refusal, Done, Removed, Extint, Vector, Part, Registry, Counters, Tick, Pic, Ioapic, Lapic, Shape, TickState, Irqfd, TriggerWord, has_output, cycle, LocalApic, message_in, tick_injects, ticked, taken, written, named_row, without_row, with_row, Board, part_of, with_part, is_same, pair_of, with_pair, Routing, injected, the_reply, reply, ◌>>◌, Wishes, reaches, send, raise, inject, let_go, of_message, of_fall, assign_reasons, write_reasons, attach_reasons, detach_reasons, watch_reasons, unwatch_reasons, range_reasons, unless_refused, source_of, assigned, inject_count, was_last_resampler, release, deassigned, tick_or_hold, end_vector, cycle_pins, cycle_made, hears_pair, give, give_of_pair, take_nmi, io_row, number_of, plan_in_range, set, or_false, sends_reach, signals_reach_the_same, ReachIsTable, gsi_same, twice, inject_tick_reach, Source, without_ioevent, with_watch, without_watch}
 use Rattle.board_step.proofs.Basics.acks
 use Rattle.board_step.specs.Reach as table
 use Rattle.board_calls.specs.Registrations as registrations

@@ -1,5 +1,5 @@
 -- A step changes nothing outside its reach, and depends on nothing else but the published words.
-use Rattle.board_step.proofs.Basics.{◌≡◌, Bool, true, false, refl, sym, ap, ◌∙◌, length, is_allowed, Call, Caller, Part, Registry, Board, part_of, routing_of_registry, run, reaches, RegistryPart, plan_of, RunsAlike, agreeing_alike, unreached_stays, PublishTheSame, published_decides, published_decides_the_table, would_publish, with_counts, plan_on, outcome_of, counted, IsSound, StaysOutsideReach, SamePart, AgreesForCall, DependsOnReach, reach}
+use Rattle.board_step.proofs.Basics.{◌≡◌, Bool, true, false, refl, sym, ap, ◌∙◌, length, is_allowed, Call, Caller, Part, Registry, Board, part_of, run, reaches, RegistryPart, plan_of, RunsAlike, agreeing_alike, unreached_stays, PublishTheSame, published_decides, published_decides_the_table, would_publish, with_counts, plan_on, outcome_of, counted, IsSound, StaysOutsideReach, SamePart, AgreesForCall, DependsOnReach, reach}
 use Rattle.board_step.proofs.ReachCalls.{reach_is_table}
 
 -- to count a call changes no part

@@ -1,5 +1,5 @@
 -- What acknowledges of pins of different GSIs reach, one after another, is told by the board before the first.
-use Rattle.board_step.proofs.Basics.{arith, ◌≡◌, ℕ, Bool, true, false, not, ◌&&◌, ◌||◌, nat_eq, if◌then◌else◌, List, [], ◌∷◌, inl, inr, refl, sym, ap, ◌∙◌, subst, Some, None, unsigned_Decides, Option, contains-remove, eq_by_cmp, Pin, Message, MsiWord, Resample, Part, Tick, Pic, Ioapic, Shape, IoapicChip, message_of, entry_at, pin_acked, has_resampler, hold, hold_cmp, ack_injects, is_same_pin, has_pin, Board, is_same, IoapicPart, ioapic_of, with_ioapic, Routing, done, ◌>>◌, Wishes, Outcome, run, of_pin, of_answer, of_other, tell_concerned, end_level, end_tick, acknowledge, acknowledge_tick, board_by, of_marked, of_resend, of_level, of_tick, of_acknowledge_each, ◌⊎◌, IoEntry as Entry, hold_cmp_total, is_same-some, run-bind, acknowledge_tells, pin_freed, part_freed, freed, part_cleared, cleared, of_acknowledge_now, of_acknowledges_now}
+use Rattle.board_step.proofs.Basics.{arith, ◌≡◌, ℕ, Bool, true, false, not, ◌&&◌, ◌||◌, nat_eq, if◌then◌else◌, List, [], ◌∷◌, inl, inr, refl, sym, ap, ◌∙◌, subst, Some, None, unsigned_Decides, Option, contains-remove, eq_by_cmp, Pin, Message, MsiWord, Resample, Part, Tick, Pic, Ioapic, Shape, message_of, entry_at, pin_acked, has_resampler, hold, hold_cmp, ack_injects, is_same_pin, has_pin, Board, is_same, IoapicPart, ioapic_of, with_ioapic, Routing, done, ◌>>◌, Wishes, Outcome, run, of_pin, of_answer, of_other, tell_concerned, end_level, end_tick, acknowledge, acknowledge_tick, board_by, of_marked, of_resend, of_level, of_tick, of_acknowledge_each, ◌⊎◌, IoEntry as Entry, hold_cmp_total, is_same-some, run-bind, acknowledge_tells, pin_freed, part_freed, freed, part_cleared, cleared, of_acknowledge_now, of_acknowledges_now}
 use Rattle.board_step.proofs.ReachPins.{irr_cleared, acked_entry, raise_alike, MarksResamplers, told_holds, level_ends, acknowledge_is_now}
 use Rattle.board_step.proofs.ReachApart.{SamePin, same_level, IsOther, IsOtherOf, IsOtherPin, acknowledge_leaves}
 

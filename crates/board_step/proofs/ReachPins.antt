@@ -1,5 +1,5 @@
 -- What the acknowledge of one pin reaches is told by the board before it.
-use Rattle.board_step.proofs.Basics.{◌≡◌, ℕ, zero, suc, Bool, true, false, not, ◌&&◌, ◌||◌, nat_eq, if◌then◌else◌, List, [], ◌∷◌, inl, inr, refl, sym, ap, ◌∙◌, subst, true≢false, arith, Some, None, slice_index_or, Option, unsigned_Decides, nat_tests, signalled_all, Event, Pin, Message, MsiWord, Resample, Part, Registry, Counters, Tick, Pic, Ioapic, Lapic, Shape, IoapicChip, message_of, entry_at, raise_of, resend_of, pin_acked, pin_accepted, has_resampler, watched, watch_events, resampled, resample_events, ack_injects, is_taken, Board, part_of, with_part, is_same, IoapicPart, ioapic_of, with_ioapic, Routing, About, resent, Plan, done, ◌>>◌, Wishes, Outcome, run, TargetAnswer, reached_by, send, is_accepted, accept_pin, let_go, is_of_one, of_message, of_pin, of_answer, of_other, say_each, signal_each, resample, notify, resample_and_notify, tell_concerned, resend, clear_and_resend, end_level, entry_ended, board_by, of_marked, of_resend, of_level, of_tick, of_acknowledge, slice_set, ◌⊎◌, IoEntry as Entry, entry_at_power_on, run-bind, unreached_stays, sends_reach, pin_freed, part_freed, freed, part_cleared, cleared, of_acknowledge_now, Raise, contains}
+use Rattle.board_step.proofs.Basics.{◌≡◌, ℕ, zero, suc, Bool, true, false, not, ◌&&◌, ◌||◌, nat_eq, if◌then◌else◌, List, [], ◌∷◌, inl, inr, refl, sym, ap, ◌∙◌, subst, true≢false, arith, Some, None, slice_index_or, Option, unsigned_Decides, nat_tests, signalled_all, Event, Pin, Message, MsiWord, Resample, Part, Registry, Counters, Tick, Pic, Ioapic, Lapic, Shape, IoapicChip, message_of, entry_at, raise_of, resend_of, pin_acked, pin_accepted, has_resampler, watched, watch_events, resampled, resample_events, ack_injects, Board, part_of, with_part, is_same, IoapicPart, ioapic_of, with_ioapic, Routing, About, resent, Plan, done, ◌>>◌, Wishes, Outcome, run, TargetAnswer, reached_by, send, is_accepted, accept_pin, let_go, is_of_one, of_message, of_pin, of_answer, of_other, say_each, signal_each, resample, notify, resample_and_notify, tell_concerned, resend, clear_and_resend, end_level, entry_ended, board_by, of_marked, of_resend, of_level, of_tick, of_acknowledge, slice_set, ◌⊎◌, IoEntry as Entry, entry_at_power_on, run-bind, unreached_stays, sends_reach, pin_freed, part_freed, freed, part_cleared, cleared, of_acknowledge_now, Raise, contains}
 
 -- ---- entries that are written
 

@@ -1,5 +1,5 @@
 -- What a call reaches is told by the board before it.
-use Rattle.board_step.proofs.Basics.{◌≡◌, ℕ, ◌+◌, Bool, true, false, cond, not, ◌&&◌, ◌||◌, nat_eq, ◌-◌, if◌then◌else◌, List, [], ◌∷◌, ◌++◌, map, filter, refl, sym, ap, ◌∙◌, subst, true≢false, arith, Some, None, is_some, list_all, unsigned_Decides, Option, nat_tests, greatest_vector, first_of, Call, Caller, Space, Pin, Part, Registry, Pic, Ioapic, Lapic, Shape, Pair, Slave, IoapicChip, Irqfd, TriggerWord, top_of, level_acknowledged, is_port, has_output, slave_pin, master_top, acked_pins, slave_cycle, cycle_by, cycle, pair_write_to, pair_read_from, has_vector, write_to, LocalApic, store_effect, named_row, has_watch, rung_by, Table, is_same_pin, targets_of, has_pin, gsi_of, Board, part_of, is_same, pair_of, IoapicPart, ioapic_of, IsSoundTable, IsSoundRegistry, RegistryPart, Routing, routing_of_registry, of_fall, of_acknowledge_each, is_ioapic_address, is_lapic_address, range_reasons, all_pins, pins_with, pic_pin, cycle_pins, hears_pair, number_of, LapicEffect as Effect, sound_of, gsi_of_pin, reach, of_acknowledges_now, reach_now, ReachIsNow, LapicEffect}
+use Rattle.board_step.proofs.Basics.{◌≡◌, ℕ, ◌+◌, Bool, true, false, cond, not, ◌&&◌, ◌||◌, nat_eq, if◌then◌else◌, List, [], ◌∷◌, ◌++◌, map, filter, refl, sym, ap, ◌∙◌, subst, true≢false, arith, Some, None, is_some, list_all, unsigned_Decides, Option, nat_tests, first_of, Call, Caller, Space, Pin, Part, Registry, Pic, Ioapic, Shape, Pair, Slave, IoapicChip, TriggerWord, top_of, level_acknowledged, slave_pin, master_top, acked_pins, slave_cycle, cycle_by, cycle, has_vector, has_watch, Table, targets_of, has_pin, gsi_of, Board, is_same, pair_of, IoapicPart, ioapic_of, IsSoundTable, IsSoundRegistry, Routing, routing_of_registry, of_acknowledge_each, range_reasons, all_pins, pins_with, pic_pin, cycle_pins, number_of, LapicEffect as Effect, sound_of, gsi_of_pin, reach, of_acknowledges_now, reach_now, ReachIsNow}
 use Rattle.board_step.specs.Reach as table
 use Rattle.board_step.proofs.CountingPins.{gsi_has_pin}
 use Rattle.board_step.proofs.ReachPins.{MarksResamplers}

@@ -1,5 +1,5 @@
 -- The wishes that the events and the reply of a plan show are those of its sendings.
-use Rattle.board_step.proofs.Basics.{◌≡◌, Bool, true, false, ◌++◌, List, [], ◌∷◌, refl, sym, ap, ◌∙◌, true≢false, if◌then◌else◌, append-nil, arith, None, ◌||◌, Option, contains-union, same_set, nat_cmp-IsAntisymmetric, nat_cmp, nat_cmp_total, Numbers, Event, Injected, Resent, Ipi, Reply, Signal, Board, part_of, with_part, Sent, nobody, is_empty, TargetAnswer, sets_of, status_sent, Heading, About, injected, resent, ipi, the_reply, Plan, done, look, put, tell, answer, choose, Log, Wishes, next_wish, later_wishes, run, reached, shown_wishes, len-empty, told, answered, sending, sets-sent, Manner, sets_told, sets_replied, shows_there, Keeps, wish_of, wish_shown, wish_replied, wishes_told, contains, union, empty_of_len, empty}
+use Rattle.board_step.proofs.Basics.{◌≡◌, Bool, true, false, ◌++◌, List, [], ◌∷◌, refl, sym, ap, ◌∙◌, true≢false, if◌then◌else◌, arith, None, Option, contains-union, same_set, nat_cmp-IsAntisymmetric, nat_cmp, nat_cmp_total, Numbers, Event, Reply, Board, part_of, with_part, Sent, nobody, is_empty, TargetAnswer, sets_of, status_sent, Heading, About, injected, the_reply, Plan, done, look, put, tell, answer, choose, Log, Wishes, next_wish, later_wishes, run, reached, shown_wishes, len-empty, sending, sets-sent, Manner, sets_told, sets_replied, shows_there, Keeps, wish_of, wish_shown, wish_replied, wishes_told, union, empty_of_len, empty}
 
 -- the choices that replies show
 abbrev pub wishes_replied : List Reply → Wishes

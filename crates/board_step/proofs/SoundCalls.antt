@@ -1,7 +1,6 @@
 -- The writes of the calls that leave the registry keep a sound board's parts.
 use Rattle.board_step.proofs.Walks.{Walk, Holds, Seen, Signals, MayRaise, walk, KeptBySignals, KeptByCalls, signals_kept, tick_kept, calls_kept, is_plain, plain_holds}
-use Rattle.board_step.proofs.Basics.{◌≡◌, ℕ, ◌+◌, ◌-◌, ◌%◌, ◌^◌, ◌≤◌, Bool, true, false, nat_eq, nat_lt, if◌then◌else◌, length, None, refl, ◌∙◌, arith, length-set, ap, sym, subst, [], slice_index, IsTrue, Option, greatest_vector, Source, Resample, Line, TickSource, Targets, Shape, signalled_all, signalled, Part, Status, TickState, Call, write_to, pin_accepted, pin_acked, LocalApic, giveable_of, given, without_service, store_to, written, taken, accepted, hold, tick_acked, tick_injected, is_ignored, in_mode, has_resampler, resampled, watched, RegistryPart, Routing, routing_of_registry, ioapic_of, with_ioapic, with_pair, TargetAnswer, About, ValueOf, Board, part_of, with_part, source_of, pic_raised, ioapic_raised, pic_let_go, ioapic_let_go, inject_tick, plan_in_range, Pulse, Over, IoapicChip as Ioapic, Register, register_of, register_written, service_number, given_number, store_number, no_reason, Pin}
-use Rattle.ioapic_82093aa.specs.declared.registers.Register.TheVariants as ioregisters
+use Rattle.board_step.proofs.Basics.{◌≡◌, ℕ, ◌+◌, ◌-◌, ◌^◌, ◌≤◌, Bool, true, false, nat_lt, if◌then◌else◌, length, ◌∙◌, arith, length-set, ap, sym, subst, [], slice_index, IsTrue, Option, greatest_vector, Source, Resample, Line, TickSource, Targets, Shape, signalled_all, signalled, Part, Status, TickState, Call, write_to, pin_accepted, pin_acked, LocalApic, giveable_of, given, without_service, store_to, written, taken, accepted, hold, tick_acked, tick_injected, is_ignored, in_mode, has_resampler, resampled, watched, RegistryPart, Routing, routing_of_registry, ioapic_of, with_ioapic, with_pair, TargetAnswer, About, ValueOf, Board, part_of, with_part, source_of, pic_raised, ioapic_raised, pic_let_go, ioapic_let_go, inject_tick, plan_in_range, Pulse, Over, IoapicChip as Ioapic, Register, register_written, service_number, given_number, store_number, no_reason, Pin}
 use Rattle.board_step.proofs.SoundCounts.{counts_signalled, counts_taken, counts_written, counts_signalled_all, NoTriggers}
 use Rattle.board_step.proofs.SoundPlans.{Fine, Each, each_with}
 use Rattle.board_step.proofs.SoundSends.{accepted_number, MayHold}

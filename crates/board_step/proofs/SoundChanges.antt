@@ -1,6 +1,6 @@
 -- The calls that change the registry lead from a sound board to one.
 use Rattle.board_step.proofs.Walks.{Holds, after, inject_count_holds, shows}
-use Rattle.board_step.proofs.Basics.{◌≡◌, ℕ, ◌<◌, ◌≤◌, zero, suc, Bool, true, false, not, ◌&&◌, ◌||◌, nat_eq, nat_lt, nat_le, inl, inr, List, [], ◌∷◌, ◌++◌, length, get_or, filter, All, Some, None, refl, sym, subst, ◌∙◌, arith, length-append, IsTrue, is_some, AllPairs, slice_get, slice_set, slice_index, list_any, Option, eqb_tells, All-push, All-filter, All-weaker, list_any-append, AllPairs-filter, first_of, Pin, Refusal, Busy, RoleClash, Full, Done, Shape, Irqfd, Watch, IoRow, targets_of, taken, RegistryPart, routing_of_registry, IsSoundIrqfd, Board, injected, Plan, reply, ◌>>◌, Wishes, run, IrqfdFits, WatchFits, is_trigger, is_counter, has_resample, is_signalled, resample_clashes, assign_reasons, attach_reasons, detach_reasons, watch_reasons, unwatch_reasons, unless_refused, source_of, inject_count, assign, attach, detach, watch, unwatch, IfSome, Exists, no_reason, HasResampler, Part, has_trigger, has_resampler, resamples, is_same_ioevent, do_collide, is_named_watch, has_watch_row, has_counter}
+use Rattle.board_step.proofs.Basics.{◌≡◌, ℕ, ◌<◌, ◌≤◌, zero, suc, Bool, true, false, not, ◌||◌, nat_eq, nat_lt, nat_le, inl, inr, List, [], ◌∷◌, ◌++◌, length, get_or, filter, All, Some, None, refl, sym, subst, ◌∙◌, arith, length-append, IsTrue, is_some, AllPairs, slice_get, slice_set, slice_index, list_any, Option, eqb_tells, All-push, All-filter, All-weaker, list_any-append, AllPairs-filter, first_of, Pin, Refusal, Busy, RoleClash, Full, Done, Shape, Irqfd, Watch, IoRow, targets_of, taken, RegistryPart, routing_of_registry, IsSoundIrqfd, Board, injected, Plan, reply, ◌>>◌, Wishes, run, IrqfdFits, WatchFits, is_trigger, is_counter, has_resample, is_signalled, resample_clashes, assign_reasons, attach_reasons, detach_reasons, watch_reasons, unwatch_reasons, unless_refused, source_of, inject_count, assign, attach, detach, watch, unwatch, IfSome, Exists, no_reason, HasResampler, Part, has_trigger, has_resampler, resamples, is_same_ioevent, do_collide, is_named_watch, has_watch_row, has_counter}
 use Rattle.board_step.proofs.SoundCounts.{CountsFine, counts_taken}
 use Rattle.board_step.proofs.SoundPlans.{Each}
 use Rattle.board_step.proofs.SoundSends.{MayHold}

@@ -1,5 +1,5 @@
 -- Counts that stand: a signal, a write and a read keep them so.
-use Rattle.board_step.proofs.Basics.{◌≡◌, ℕ, ◌+◌, ◌-◌, ◌^◌, ◌≤◌, zero, suc, false, true≢false, inl, inr, List, [], ◌∷◌, length, min, All, Some, refl, sym, ap, subst, ◌∙◌, arith, length-set, IsTrue, slice_get, slice_set, slice_index, signalled, signalled_all, RegistryPart, is_trigger, ◌⊎◌, All-set}
+use Rattle.board_step.proofs.Basics.{◌≡◌, ℕ, ◌-◌, ◌^◌, ◌≤◌, zero, suc, false, true≢false, inl, inr, List, [], ◌∷◌, length, All, Some, refl, sym, ap, subst, ◌∙◌, arith, length-set, IsTrue, slice_get, slice_set, signalled, signalled_all, RegistryPart, is_trigger, ◌⊎◌, All-set}
 
 -- so many counts, none past the greatest, and that of a trigger is 0
 pub record CountsFine (r : RegistryPart) (many : ℕ) (counts : List ℕ) : Type 0 where

@@ -1,5 +1,5 @@
 -- What a sound registry tells of triggers, of signalled counters and of pins.
-use Rattle.board_step.proofs.Basics.{arith, ◌≡◌, ℕ, ◌<◌, Bool, true, false, true≢false, cond, ◌&&◌, ◌||◌, nat_eq, if◌then◌else◌, List, [], ◌∷◌, map, filter, All, Some, None, refl, sym, ap, subst, ◌∙◌, IsTrue, filter_map, find, list_any, cons_option, first_so, second_so, unsigned_Decides, Option, All-head, All-tail, Pin, MsiWord, Source, Resample, Shape, Irqfd, Watch, Row, TriggerWord, has_trigger, resamples, of_trigger, has_resampler, resample_of, resampled, watched, has_counter, Table, table_of, targets_of, refusal_of, has_pin, gsi_of, RegistryPart, trigger_of, IsSoundTable, IsSoundRegistry, RegistrationsFit, is_trigger, is_counter, has_resample, is_signalled, option_map, is_below, is_route_of, is_same_pin as is_same, sound_of, is_same-some, gsi_of_pin, pin_of_gsi, HasResampler, AreDistinct}
+use Rattle.board_step.proofs.Basics.{arith, ◌≡◌, ℕ, Bool, true, false, true≢false, cond, ◌&&◌, ◌||◌, nat_eq, if◌then◌else◌, List, [], ◌∷◌, map, filter, All, Some, None, refl, sym, ap, subst, ◌∙◌, IsTrue, filter_map, find, list_any, cons_option, unsigned_Decides, Option, All-head, All-tail, Pin, Source, Resample, Shape, Irqfd, Watch, Row, TriggerWord, has_trigger, resamples, of_trigger, has_resampler, resample_of, resampled, watched, has_counter, Table, table_of, targets_of, refusal_of, has_pin, gsi_of, RegistryPart, trigger_of, IsSoundTable, IsSoundRegistry, RegistrationsFit, is_trigger, is_counter, has_resample, is_signalled, option_map, is_same_pin as is_same, sound_of, is_same-some, gsi_of_pin, pin_of_gsi, HasResampler, AreDistinct}
 use borrow.Author.Tests.{ltb-true}
 use Rattle.board_step.proofs.SoundCounts.{NoTriggers}
 use Rattle.board_step.proofs.SoundSends.{MayHold}

@@ -1,5 +1,5 @@
 -- What registrations keep when a row comes or goes.
-use Rattle.board_step.proofs.Basics.{◌≡◌, ◌≢◌, ℕ, ◌≤◌, suc, Bool, true, false, true≢false, cond, not, ◌&&◌, ◌||◌, nat_eq, List, [], ◌∷◌, ◌++◌, length, filter, All, Some, refl, sym, ap, subst, ◌∙◌, arith, is_some, find, AllPairs, list_any, AllByRecursion, first_so, second_so, unsigned_Decides, Irqfd, has_trigger, is_named, resamples, has_resampler, named_row, without_row, All-from_recursion, recursion_from_All, all_pairs_push}
+use Rattle.board_step.proofs.Basics.{◌≡◌, ◌≢◌, ℕ, ◌≤◌, suc, Bool, true, false, cond, not, ◌&&◌, ◌||◌, nat_eq, List, [], ◌∷◌, ◌++◌, length, filter, All, Some, refl, sym, ap, subst, ◌∙◌, arith, is_some, find, AllPairs, list_any, AllByRecursion, first_so, second_so, unsigned_Decides, Irqfd, has_trigger, is_named, resamples, has_resampler, named_row, without_row, All-from_recursion, recursion_from_All, all_pairs_push}
 
 pub or_neither : (a b : Bool) → (a || b) ≡ false → (a ≡ false) × (b ≡ false)
 or_neither a b h1 = grind arith

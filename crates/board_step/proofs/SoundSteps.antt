@@ -1,6 +1,6 @@
 -- A step from a sound board leads to a sound board.
-use Rattle.board_step.proofs.Walks.{Holds, is_plain}
-use Rattle.board_step.proofs.Basics.{routing_on, ◌≡◌, ℕ, ◌+◌, ◌<◌, ◌≤◌, Bool, true, false, All, ◌&&◌, nat_eq, nat_le, if◌then◌else◌, List, [], ◌∷◌, length, Some, None, refl, sym, subst, ◌∙◌, arith, Option, All-head, All-tail, first_of, Call, Assign, Deassign, Reroute, Attach, Detach, Unwatch, Caller, Entry, Calls, Publications, Shape, TickState, ticked, tick_injects, RegistryPart, Routing, routing_of_registry, Board, the_reply, Wishes, run, InLimits, range_reasons, tick_or_hold, number_of, io_row, plan_in_range, IfSome, WatchCall as Watch, TickCall as Tick, NoGsi, NoCounter, BadRange, ChipAddress, frame_stays, IsTyped, StepsKeepSound, HistoriesKeepSound, opening, Leads, bad_gsi, bad_counter, bad_resample, bad_ioevent, is_chip_address, would_publish, plan_on, with_counts, IsSound, no_reason, Part}
+use Rattle.board_step.proofs.Walks.{Holds}
+use Rattle.board_step.proofs.Basics.{routing_on, ◌≡◌, ℕ, ◌+◌, ◌≤◌, Bool, true, false, All, ◌&&◌, nat_eq, nat_le, if◌then◌else◌, List, [], ◌∷◌, length, Some, None, refl, sym, subst, ◌∙◌, arith, All-head, All-tail, first_of, Call, Assign, Deassign, Reroute, Attach, Detach, Unwatch, Caller, Entry, Calls, Publications, Shape, TickState, ticked, tick_injects, RegistryPart, Board, the_reply, Wishes, run, InLimits, range_reasons, tick_or_hold, number_of, io_row, plan_in_range, WatchCall as Watch, TickCall as Tick, NoGsi, NoCounter, BadRange, ChipAddress, frame_stays, IsTyped, StepsKeepSound, HistoriesKeepSound, opening, Leads, bad_gsi, bad_counter, bad_resample, bad_ioevent, is_chip_address, would_publish, plan_on, with_counts, IsSound, no_reason, Part}
 use Rattle.board_step.proofs.SoundOpening.{opening_is_sound}
 use Rattle.board_step.proofs.SoundCounts.{CountsFine}
 use Rattle.board_step.proofs.SoundPlans.{Each, each_with}

@@ -1,5 +1,5 @@
 -- The table of rows that keep the rules is sound where each payload has 32 bits.
-use Rattle.board_step.proofs.Basics.{◌≡◌, ℕ, ◌<◌, ◌^◌, zero, suc, true, false, nat_lt, inl, inr, List, [], ◌∷◌, ◌++◌, length, get_or, replicate, All, Some, None, refl, sym, subst, ◌∙◌, arith, append_assoc, append-nil, length-set, nat_tests, length-replicate, All-nil, All-head, All-tail, All-push, All-append, IsTrue, Option, Reason, first_of, Row, Full, refusal_of, table_of, targets_of, default_rows, IsSoundTable, leb_tells, get_or-replicate, get_or_past, PicRow as Pic, IoapicRow as Ioapic, MsiRow as Msi, is_route, gsi_in, pic_in, ioapic_in, msi_in, row_reasons, reasons_after, with_owner, fits_if, word_with, Stands, stands-snoc, no_reason, kept_of, table_in-rows, stands_none, sends_to_routes, pic_rows, ioapic_rows, default_rows-kept, PayloadFits}
+use Rattle.board_step.proofs.Basics.{◌≡◌, ℕ, zero, suc, true, false, nat_lt, inl, inr, List, [], ◌∷◌, ◌++◌, length, get_or, replicate, All, None, refl, sym, subst, ◌∙◌, arith, append_assoc, append-nil, length-set, length-replicate, All-nil, All-head, All-tail, All-push, All-append, IsTrue, Reason, first_of, Row, Full, refusal_of, table_of, targets_of, default_rows, IsSoundTable, leb_tells, get_or-replicate, get_or_past, PicRow as Pic, IoapicRow as Ioapic, is_route, gsi_in, pic_in, ioapic_in, msi_in, row_reasons, reasons_after, with_owner, fits_if, word_with, Stands, stands-snoc, no_reason, kept_of, table_in-rows, stands_none, sends_to_routes, pic_rows, ioapic_rows, default_rows-kept, PayloadFits}
 use Rattle.std.proofs.Common.{set}
 
 -- words and pins that stand for rows

@@ -1,5 +1,5 @@
 -- What an allowed call reaches is there: no local APIC past those of the shape.
-use Rattle.board_step.proofs.Basics.{◌≡◌, ℕ, zero, suc, ◌-◌, ◌<◌, ◌≤◌, Bool, true, false, true≢false, not, ◌&&◌, ◌||◌, nat_eq, nat_lt, if◌then◌else◌, List, [], ◌∷◌, ◌++◌, Some, None, refl, sym, ◌∙◌, arith, Option, greatest_vector, is_allowed, first_of, Call, Caller, Cpu, Space, Pin, Message, MsiWord, Targets, Pic, Ioapic, Lapic, Shape, Raise, Shorthand, TriggerWord, is_port, has_output, cycle, pair_write_to, pair_read_from, raise_of, entry_at, pin_acked, Written, write_to, resend_of, is_taken, LocalApic, store_effect, message_in, tick_injects, ack_injects, rung_by, Board, part_of, pair_of, IoapicPart, ioapic_of, with_ioapic, ◌>>◌, Routing, routing_of_registry, numbers_below, only, reached_by, is_of_one, of_message, of_pin, of_answer, of_other, of_fall, tell_concerned, end_level, acknowledge, board_by, of_marked, of_resend, of_level, of_tick, of_acknowledge, of_acknowledge_each, is_ioapic_address, is_lapic_address, range_reasons, pins_with, pic_pin, cycle_pins, hears_pair, number_of, is_some, is_of_processor, LapicEffect as Effect, Field, OwnOnly, AllIncluded as All, Others, reached_by_destination, of_raise, of_gsi, of_end, of_counter, of_write, does_inject, of_pair, of_written, of_effect, of_rung, of_ring, of_store, of_load, of_cycle, of_ack, of_call, reach, ReachIsThere, LapicEffect}
+use Rattle.board_step.proofs.Basics.{◌≡◌, ℕ, zero, suc, ◌<◌, ◌≤◌, Bool, true, false, not, ◌&&◌, ◌||◌, nat_eq, nat_lt, if◌then◌else◌, List, [], ◌∷◌, ◌++◌, Some, None, refl, arith, Option, is_allowed, Call, Caller, Cpu, Space, Pin, Message, MsiWord, Targets, Pic, Lapic, Shape, Raise, Shorthand, TriggerWord, is_port, has_output, cycle, pair_write_to, pair_read_from, raise_of, entry_at, pin_acked, Written, resend_of, is_taken, LocalApic, message_in, tick_injects, Board, part_of, pair_of, IoapicPart, ioapic_of, Routing, numbers_below, only, reached_by, is_of_one, of_message, of_pin, of_answer, of_other, of_fall, tell_concerned, acknowledge, board_by, of_marked, of_resend, of_level, of_acknowledge, of_acknowledge_each, is_ioapic_address, is_lapic_address, pic_pin, cycle_pins, hears_pair, number_of, is_of_processor, LapicEffect as Effect, Field, OwnOnly, AllIncluded as All, Others, reached_by_destination, of_raise, of_gsi, of_counter, does_inject, of_pair, of_written, of_effect, of_ring, of_store, of_load, of_cycle, of_ack, of_call, reach, ReachIsThere, LapicEffect}
 
 -- ---- tests
 

@@ -1,5 +1,5 @@
 -- A call of which nothing is wished, with all its events.
-use Rattle.board_step.proofs.Basics.{◌≡◌, ◌≤◌, List, [], ◌∷◌, length, Ok, Err, IfOk, refl, sym, ap, ◌∙◌, subst, arith, take_all, with_told, Call, Caller, Event, Entry, DoneCall as Done, Spent, Board, Outcome, Applied, Ran, UnwishedStep, entry_of, IsSound, outcome_of, counted, Step}
+use Rattle.board_step.proofs.Basics.{◌≡◌, ◌≤◌, List, [], length, Ok, Err, IfOk, refl, sym, ◌∙◌, subst, arith, take_all, with_told, Call, Caller, Event, Entry, DoneCall as Done, Spent, Board, Outcome, Applied, Ran, UnwishedStep, entry_of, IsSound, outcome_of, counted, Step}
 use Rattle.std.specs.declared.result.Result.{Result}
 use Rattle.board_step.proofs.CountingAnswers.{steps_tell_few}
 use Rattle.board_step.proofs.Steps.{leads_to_one}

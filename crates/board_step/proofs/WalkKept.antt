@@ -2,7 +2,7 @@
 use Rattle.board_step.proofs.Basics.{◌≡◌, ℕ, Bool, false, Some, None, Option, greatest_vector, signalled, signalled_all, first_of, Message, Source, Line, TickSource, Registry, Counters, Tick, Pic, Ioapic, Lapic, Shape, Status, Pair, TriggerWord, pin_accepted, pin_acked, write_to, LocalApic, accepted, store_to, giveable_of, given, without_service, taken, written as count_of, resampled, watched, in_mode, tick_acked, tick_injected, Board, part_of, with_part, ioapic_of, with_pair, with_ioapic, RegistryPart, Routing, TargetAnswer, About, injected, resent, ipi, the_reply, next_wish, later_wishes, show, pic_let_go, ioapic_let_go, inject_tick, write_reasons, source_of}
 use Rattle.board_step.proofs.Walk.{Walk, Holds, Seen, kept_by}
 use Rattle.board_step.proofs.WalkSignals.{Shows, Signals, MayRaise, shows_by}
-use Rattle.board_step.proofs.WalkAcks.{Tells, tells_by, Ends, resend_holds, end_level_holds, acks_hold, inject_tick_holds}
+use Rattle.board_step.proofs.WalkAcks.{tells_by, Ends, resend_holds, end_level_holds, acks_hold, inject_tick_holds}
 use Rattle.board_step.proofs.WalkCalls.{Plain}
 
 module _ (P : Board → Type 0) where

@@ -1,5 +1,5 @@
 -- The choices that a list in code is given.
-use Rattle.board_step.proofs.Basics.{◌≡◌, ◌≤◌, Bool, true, false, ◌||◌, [], ◌∷◌, length, refl, sym, ap, ◌∙◌, if◌then◌else◌, arith, contains-union, contains-empty, same_set, nat_cmp-IsAntisymmetric, nat_cmp, nat_cmp_total, Numbers, Event, Sent, is_empty, reached, wish_of, wish_shown, contains, empty}
+use Rattle.board_step.proofs.Basics.{◌≡◌, ◌≤◌, true, false, ◌||◌, [], ◌∷◌, length, refl, sym, ap, ◌∙◌, if◌then◌else◌, arith, contains-union, contains-empty, same_set, nat_cmp-IsAntisymmetric, nat_cmp, nat_cmp_total, Numbers, Event, Sent, is_empty, reached, wish_of, wish_shown, contains, empty}
 use Rattle.board_step.proofs.Shown.{empty_is, was_empty, wished}
 
 no_member : (s : Numbers) → ((n : _) → contains s n ≡ false) → s ≡ empty

@@ -1,5 +1,5 @@
 -- A step that is no publication leaves the published words.
-use Rattle.board_step.proofs.Basics.{routing_on, ◌≡◌, ℕ, Bool, true, false, not, ◌||◌, List, [], ◌∷◌, ◌++◌, refl, sym, ap, ◌∙◌, Some, None, Option, first_of, Call, Caller, Entry, Refusal, Irqfd, IoRow, Done, Registry, named_row, Board, published, Routing, routing_of_registry, Plan, reply, ◌>>◌, Wishes, run, range_reasons, attach_reasons, detach_reasons, unless_refused, deassigned, number_of, io_row, plan_in_range, is_some, without_ioevent as without_row, set as put_part, frame_stays, Manner, registry_stays, refusal_on as refusal_of, does_publish, publishes_unless, would_publish, plan_on, outcome_of, with_counts, Step}
+use Rattle.board_step.proofs.Basics.{routing_on, ◌≡◌, ℕ, Bool, true, false, not, ◌||◌, List, [], ◌∷◌, ◌++◌, refl, sym, ap, ◌∙◌, Some, None, Option, first_of, Call, Caller, Entry, Refusal, Irqfd, IoRow, Done, Registry, named_row, Board, published, Plan, reply, ◌>>◌, Wishes, run, range_reasons, attach_reasons, detach_reasons, unless_refused, deassigned, number_of, io_row, plan_in_range, is_some, without_ioevent as without_row, set as put_part, frame_stays, Manner, registry_stays, refusal_on as refusal_of, does_publish, publishes_unless, would_publish, plan_on, outcome_of, with_counts, Step}
 use Rattle.board_step.proofs.CallManner.{replies_in, writes_in, refuses_in, call_keeps, or_true}
 use Rattle.board_step.proofs.Refusing.{refuses_first}
 

@@ -1,4 +1,4 @@
-use Rattle.board_step.proofs.Basics.{◌≡◌, false, true≢false, ◌++◌, IsTrue, sym, ap, ◌∙◌, arith, Sent}
+use Rattle.board_step.proofs.Basics.{true≢false, ◌++◌, sym, ap, ◌∙◌, arith}
 use Rattle.board_step.proofs.Wished.{somebody, unwished}
 use Rattle.board_step.proofs.choices.add_sets.Goals as goal
 

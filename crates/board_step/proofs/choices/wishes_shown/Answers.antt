@@ -1,4 +1,4 @@
-use Rattle.board_step.proofs.Basics.{◌≡◌, ◌+◌, ◌-◌, ◌≤◌, ◌++◌, length, length-append, append_assoc, sym, ap, ◌∙◌, arith, wish_shown, wish_replied, wishes_told}
+use Rattle.board_step.proofs.Basics.{◌≡◌, ◌+◌, ◌-◌, ◌++◌, length, length-append, append_assoc, sym, ap, ◌∙◌, arith, wish_shown, wish_replied, wishes_told}
 use Rattle.board_step.proofs.Listed.{drop_here}
 use Rattle.board_step.proofs.Wished.{event_few}
 use Rattle.board_step.proofs.choices.wishes_shown.Goals as goal

@@ -1,4 +1,4 @@
-use Rattle.board_step.proofs.Basics.{◌≡◌, ◌+◌, ◌-◌, ◌≤◌, ◌++◌, drop, length, wishes_told, wish_replied}
+use Rattle.board_step.proofs.Basics.{◌≡◌, ◌+◌, ◌≤◌, ◌++◌, drop, length, wishes_told, wish_replied}
 use Rattle.board_step.proofs.choices.wishes_shown.Given as goal
 
 -- the choices of the events from k on are there, with that of the reply

@@ -1,4 +1,4 @@
-use Rattle.board_step.proofs.Basics.{◌≡◌, sym, ◌∙◌, arith}
+use Rattle.board_step.proofs.Basics.{sym, ◌∙◌, arith}
 use Rattle.board_step.proofs.SeenNow.{vector_found, vector_none}
 use Rattle.board_step.proofs.reach_acks.of_vector.Goals as goal
 

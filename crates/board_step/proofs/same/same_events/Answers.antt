@@ -1,4 +1,4 @@
-use Rattle.board_step.proofs.Basics.{[], ◌∷◌, ◌++◌, IsTrue, sym, ◌∙◌, arith}
+use Rattle.board_step.proofs.Basics.{[], ◌∷◌, ◌++◌, sym, ◌∙◌, arith}
 use Rattle.board_step.proofs.Listed.{take_more, take_there}
 use Rattle.board_step.proofs.same.same_events.Goals as goal
 

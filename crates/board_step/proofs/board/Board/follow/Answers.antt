@@ -1,4 +1,4 @@
-use Rattle.board_step.proofs.Basics.{◌<◌, length, true≢false, sym, ◌∙◌, arith}
+use Rattle.board_step.proofs.Basics.{true≢false, sym, ◌∙◌, arith}
 use Rattle.board_step.proofs.Followed.{never_many, never_spent, had_leads, had_exactly}
 use Rattle.board_step.proofs.board.Board.follow.Goals as goal
 

@@ -1,4 +1,4 @@
-use Rattle.board_step.proofs.Basics.{arith, IsTrue}
+use Rattle.board_step.proofs.Basics.{arith}
 use Rattle.board_step.proofs.OpeningParts.{opened_is, opened_kept}
 use Rattle.board_step.proofs.board.Board.power_on.Goals as goal
 
