@@ -1,5 +1,5 @@
 -- What each call takes off the pending ticks, and which injections its events may tell.
-use Rattle.board_laws.proofs.Basics.{Holds, after, inject_only, resend_holds, open_raise, open_replied, is_signal, Accesses, Replied, line_holds, message_holds, write_holds, inject_count_holds, take_holds, assign_holds, deassign_holds, reroute_holds, attach_holds, detach_holds, watch_holds, unwatch_holds, ring_holds, ioapic_store_holds, load_holds, pair_write_holds, port_in_holds, lapic_store_holds, next_holds, inta_holds, eoi_holds, unless_holds, ◌≡◌, ℕ, ◌+◌, ◌-◌, Bool, true, false, true≢false, ◌||◌, ◌⊎◌, inl, inr, sym, arith, if◌then◌else◌, refl, Some, None, Option, first_of, Call, Caller, Space, Reply, Done, Exit, Held, Shape, TickState, TriggerWord, is_port, Routing, injected, ipi, the_reply, Plan, reply, ◌>>◌, resent, run, send, range_reasons, is_ioapic_address, is_lapic_address, line_set, message_sent, source_of, write, take, inject_count, assign, deassign, reroute, attach, detach, watch, unwatch, tick_or_hold, pair_write, ioapic_store, lapic_store, ring_counter, rung, ring, port_out, store, number_of, io_row, plan_in_range, plan_of, resend, acks_in}
+use Rattle.board_laws.proofs.Basics.{Holds, after, inject_only, resend_holds, open_raise, open_replied, is_signal, Accesses, Replied, line_holds, message_holds, write_holds, inject_count_holds, take_holds, assign_holds, deassign_holds, reroute_holds, attach_holds, detach_holds, watch_holds, unwatch_holds, ring_holds, ioapic_store_holds, load_holds, pair_write_holds, port_in_holds, lapic_store_holds, next_holds, inta_holds, eoi_holds, unless_holds, ◌≡◌, ℕ, ◌-◌, Bool, true, false, true≢false, ◌||◌, ◌⊎◌, inl, inr, sym, arith, if◌then◌else◌, refl, Some, None, Option, first_of, Call, Caller, Space, Reply, Done, Exit, Held, Shape, TickState, TriggerWord, is_port, Routing, injected, ipi, the_reply, Plan, reply, ◌>>◌, resent, send, range_reasons, is_ioapic_address, is_lapic_address, line_set, message_sent, source_of, write, take, inject_count, assign, deassign, reroute, attach, detach, watch, unwatch, tick_or_hold, pair_write, ioapic_store, lapic_store, ring_counter, rung, ring, port_out, store, number_of, io_row, plan_in_range, plan_of, resend}
 use Rattle.board_laws.proofs.ConservingQuiet.{still, still_open, still_signals, still_shows}
 use Rattle.board_laws.proofs.ConservingAcks.{Conserving, conserving, quiet_conserving, tick_conserving, each_conserving}
 

@@ -1,5 +1,5 @@
 -- An irqfd that is made injects at most once, and one that is rung once.
-use Rattle.board_laws.proofs.Basics.{routing_on, ◌≡◌, ℕ, Bool, true, false, ◌⊎◌, inl, inr, nat_lt, List, ◌∷◌, refl, sym, ap, subst, Some, None, Contains, Option, first_of, Call, Caller, Event, Rang, Refusal, Done, TriggerWord, taken, Board, with_part, Routing, routing_of_registry, injected, Plan, done, tell, reply, ◌>>◌, Wishes, run, inject, range_reasons, assign_reasons, unless_refused, source_of, inject_count, assigned, assign, ring_counter, slice_index, is_some, plan_on, Part, rung_on, InjectsAtMostOnce, RingsOnce, OneInjectionOfAnIrqfd, with_row}
+use Rattle.board_laws.proofs.Basics.{routing_on, ◌≡◌, ℕ, Bool, true, false, ◌⊎◌, inl, inr, nat_lt, List, ◌∷◌, refl, sym, ap, subst, Some, None, Contains, Option, first_of, Call, Caller, Event, Rang, Refusal, Done, TriggerWord, taken, Board, with_part, routing_of_registry, injected, Plan, done, tell, reply, ◌>>◌, Wishes, run, inject, range_reasons, assign_reasons, unless_refused, source_of, inject_count, assigned, assign, ring_counter, slice_index, is_some, plan_on, Part, rung_on, InjectsAtMostOnce, RingsOnce, OneInjectionOfAnIrqfd, with_row}
 use Rattle.board_laws.proofs.ConservingOnce.{injects_before, inject_injects}
 use Rattle.board_laws.proofs.DeassignedSignals.{no_member, Refuses, call_rings, call_tells, refused_alone}
 

@@ -1,5 +1,5 @@
 -- A signal that shows as an injection tells that alone, once.
-use Rattle.board_laws.proofs.Basics.{◌≡◌, ℕ, Bool, true, false, not, if◌then◌else◌, List, [], ◌∷◌, ◌++◌, refl, ap, ◌∙◌, Some, None, Option, Numbers, Injected, Message, MsiWord, Source, Resample, Targets, Ioapic, Lapic, Cause, NoProcessor, BadVector, BadMode, Masked, Status, Shorthand, Raise, is_taken, accepted, raise_of, message_in, ioapic_of, Board, part_of, with_part, Sent, nobody, TargetAnswer, status_of, status_sent, message_answer, no_effect, stood_already, Heading, injected, Plan, done, put, choose, ◌>>=◌, ◌>>◌, Wishes, next_wish, later_wishes, Outcome, run, reached, Processor, named_by, chosen_of, numbers_of, show, ignore, reached_by, see_each, parted, is_illegal, accept_each, deliver, refuse_vector, send_to, send, raise_pic, answer_shown, ioapic_raised, ioapic_answered, accept_pin, is_accepted, raise_other, raise, let_go_pic, let_go_ioapic, let_go, let_go_after, inject, run-bind, contains, Walk, Holds, Open, of_log, open_signals, open_raise, bound, let_go_after_holds, raise_pic_holds, accept_pin_holds, after_seen, processors_on, subst, sym}
+use Rattle.board_laws.proofs.Basics.{◌≡◌, ℕ, true, false, not, if◌then◌else◌, List, [], ◌∷◌, ◌++◌, refl, ap, ◌∙◌, Some, None, Option, Numbers, Injected, Message, MsiWord, Source, Targets, Ioapic, Lapic, Cause, NoProcessor, BadVector, BadMode, Masked, Status, Shorthand, Raise, is_taken, accepted, raise_of, message_in, ioapic_of, Board, with_part, Sent, nobody, TargetAnswer, status_of, status_sent, message_answer, no_effect, stood_already, Heading, injected, Plan, done, put, choose, ◌>>=◌, ◌>>◌, Wishes, next_wish, later_wishes, Outcome, run, reached, Processor, named_by, chosen_of, numbers_of, show, ignore, reached_by, see_each, parted, is_illegal, accept_each, deliver, refuse_vector, send_to, send, raise_pic, answer_shown, ioapic_raised, ioapic_answered, accept_pin, is_accepted, raise_other, raise, let_go_after, inject, run-bind, contains, Walk, Holds, Open, of_log, open_signals, open_raise, bound, let_go_after_holds, raise_pic_holds, accept_pin_holds, after_seen, processors_on, subst, sym}
 
 -- nothing is told
 abbrev silent : Walk

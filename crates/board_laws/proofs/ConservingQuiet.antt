@@ -1,5 +1,5 @@
 -- What leaves the tick state, acknowledges no pin, rings no ioeventfd, and injects on certain GSIs alone: so are signals.
-use Rattle.board_laws.proofs.Basics.{Walk, Holds, of_relation, Shows, Signals, inject_holds, Tells, tells_by, tell_holds, end_level_holds, Open, open_signals, open_shows, open_raise, ◌≡◌, ℕ, Bool, true, false, List, [], ◌∷◌, refl, ◌++◌, ◌∙◌, Option, Event, Acked, Rang, Injected, Source, Targets, Tick, Pin, is_same, Sent, TargetAnswer, About, injected, resent, ipi, the_reply, events_of, Routing, next_wish, later_wishes, run, show, inject, tell_concerned, end_level, part_of-with_other}
+use Rattle.board_laws.proofs.Basics.{Walk, Holds, of_relation, Shows, Signals, inject_holds, tells_by, tell_holds, end_level_holds, Open, open_signals, open_shows, open_raise, ◌≡◌, ℕ, Bool, true, false, List, [], ◌∷◌, refl, ◌++◌, ◌∙◌, Option, Event, Acked, Rang, Injected, Source, Targets, Tick, Pin, is_same, Sent, TargetAnswer, About, injected, resent, the_reply, events_of, Routing, next_wish, later_wishes, run, show, inject, tell_concerned, end_level, part_of-with_other}
 
 -- ---- quiet plans
 

@@ -1,5 +1,5 @@
 -- Ticks are conserved, they are injected where the state is free, and other injections follow acknowledges.
-use Rattle.board_laws.proofs.Basics.{routing_on, last_is_one, ◌≡◌, ℕ, ◌+◌, ◌-◌, Bool, true, false, true≢false, not, ◌&&◌, ◌||◌, nat_eq, min, if◌then◌else◌, ◌⊎◌, inl, inr, List, [], ◌∷◌, ◌++◌, refl, sym, ap, subst, ◌∙◌, arith, Some, None, Contains, list_any, Option, nat_tests, Contains-append_left, Contains-append_right, Call, Caller, Event, Acked, Rang, Injected, Entry, TickSource, Held, Signal, Part, Shape, Status, TickState, in_mode, ticked, tick_injects, tick_injected, Board, part_of, with_part, Routing, routing_of_registry, the_reply, Plan, change, Wishes, Outcome, run, inject, tick_or_hold, ◌≢◌, run-bind, plan_on, outcome_of, with_counts, would_publish, Step, opening, next_board, Leads, board_after, board_at, board_left, OfLegalHistories, is_tick, ticks_in, acks_in, ticks_taken_by, ticks_taken, is_tick_mode, sets_mode, StartsReinjection, TicksAreConserved, HoldsBack, BusyTicksAreHeldBack, IsFreeUnlessReinjects, StateIsFreeUnlessReinjects, FallsFree, TicksInjectFree, acks_or_injects, FollowsAcknowledge, OtherInjectionsFollowAcknowledges, next_is, or_neither}
+use Rattle.board_laws.proofs.Basics.{routing_on, last_is_one, ◌≡◌, ℕ, ◌+◌, ◌-◌, Bool, true, false, true≢false, not, ◌&&◌, ◌||◌, nat_eq, min, if◌then◌else◌, ◌⊎◌, inl, inr, List, [], ◌∷◌, ◌++◌, refl, sym, ap, subst, ◌∙◌, arith, Some, None, Contains, list_any, Option, nat_tests, Contains-append_left, Contains-append_right, Call, Caller, Event, Acked, Rang, Injected, Entry, TickSource, Held, Part, Shape, Status, TickState, in_mode, ticked, tick_injects, tick_injected, Board, part_of, with_part, Routing, the_reply, Plan, change, Wishes, Outcome, run, inject, tick_or_hold, ◌≢◌, run-bind, plan_on, outcome_of, with_counts, would_publish, Step, opening, next_board, Leads, board_after, board_at, board_left, OfLegalHistories, is_tick, ticks_in, acks_in, ticks_taken_by, ticks_taken, is_tick_mode, sets_mode, StartsReinjection, TicksAreConserved, HoldsBack, BusyTicksAreHeldBack, IsFreeUnlessReinjects, StateIsFreeUnlessReinjects, FallsFree, TicksInjectFree, acks_or_injects, FollowsAcknowledge, OtherInjectionsFollowAcknowledges, next_is, or_neither}
 use Rattle.board_laws.proofs.Points.{split, after_both, step_at, holds_at, at_points, of_boards}
 use Rattle.board_laws.proofs.ConservingQuiet.{inject_quiet}
 use Rattle.board_laws.proofs.ConservingAcks.{Conserves, is_rang, due_after, Singly, acks_append, quiet_acks}

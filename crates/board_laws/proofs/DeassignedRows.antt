@@ -1,5 +1,5 @@
 -- The rows of irqfds along a history: each trigger has one row at most, and a trigger whose row went has none until one is made.
-use Rattle.board_laws.proofs.Basics.{routing_on, last_is_one, ◌≡◌, ℕ, Bool, true, false, true≢false, cond, not, ◌||◌, nat_eq, nat_lt, ◌⊎◌, inl, inr, List, [], ◌∷◌, ◌++◌, filter, refl, sym, ap, subst, ◌∙◌, arith, Some, None, find, list_any, first_so, unsigned_Decides, Option, eqb_tells, list_any-append, first_of, Call, Caller, Entry, Resample, Refusal, Busy, RoleClash, Reply, Done, Removed, Shape, Irqfd, taken, has_trigger, is_named, named_row, with_row, without_row, Board, RegistryPart, Routing, routing_of_registry, injected, Plan, done, reply, ◌>>◌, Wishes, Outcome, run, inject, range_reasons, is_trigger, is_signalled, resample_clashes, assign_reasons, attach_reasons, detach_reasons, watch_reasons, unwatch_reasons, unless_refused, source_of, inject_count, assigned, release, deassigned, number_of, io_row, plan_in_range, slice_index, is_some, no_reason, run-bind, Manner, Keeps, keeps_bind, registry_stays, let_go_keeps, inject_keeps, plan_on, outcome_of, with_counts, would_publish, Step, opening, EndsTrigger, MakesTrigger, replies_in, writes_in, refuses_in, ends, call_keeps, or_true, or_neither, or_both, none_fewer}
+use Rattle.board_laws.proofs.Basics.{routing_on, last_is_one, ◌≡◌, ℕ, Bool, true, false, cond, not, ◌||◌, nat_eq, nat_lt, ◌⊎◌, inl, inr, List, [], ◌∷◌, ◌++◌, filter, refl, sym, ap, subst, ◌∙◌, arith, Some, None, find, list_any, first_so, unsigned_Decides, Option, eqb_tells, list_any-append, first_of, Call, Caller, Entry, Resample, Refusal, Busy, RoleClash, Reply, Done, Removed, Shape, Irqfd, taken, has_trigger, is_named, named_row, with_row, without_row, Board, RegistryPart, injected, Plan, done, reply, ◌>>◌, Wishes, Outcome, run, inject, range_reasons, is_trigger, is_signalled, resample_clashes, assign_reasons, attach_reasons, detach_reasons, watch_reasons, unwatch_reasons, unless_refused, source_of, inject_count, assigned, release, deassigned, number_of, io_row, plan_in_range, slice_index, is_some, no_reason, run-bind, Manner, Keeps, keeps_bind, registry_stays, let_go_keeps, inject_keeps, plan_on, outcome_of, Step, opening, EndsTrigger, MakesTrigger, replies_in, writes_in, refuses_in, ends, call_keeps, or_true, or_neither, or_both, none_fewer}
 use Rattle.board_laws.proofs.ConservingAcks.{or_right}
 
 -- ---- rows

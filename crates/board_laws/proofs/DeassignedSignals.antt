@@ -1,5 +1,5 @@
 -- From the end of an irqfd to the next of its trigger, a write of its counter or a guest write that rings it signals nothing.
-use Rattle.board_laws.proofs.Basics.{routing_on, last_is_one, ◌≡◌, ◌≢◌, ℕ, zero, suc, ◌-◌, ◌<◌, Bool, true, false, true≢false, ◌||◌, ◌⊎◌, inl, inr, if◌then◌else◌, List, [], ◌∷◌, ◌++◌, refl, sym, ap, subst, ◌∙◌, arith, option_map, Some, None, find, slice_get, slice_set, Contains, list_any, Option, Contains-append_left, Contains-append_right, first_of, Call, Caller, Event, Rang, Entry, Refusal, Done, Refused, Part, Shape, Irqfd, TriggerWord, is_port, written, ticked, tick_injects, has_trigger, rung_by, Board, part_of, with_part, Routing, routing_of_registry, trigger_of, Plan, put, tell, reply, ◌>>◌, Wishes, Outcome, run, range_reasons, write_reasons, is_trigger, is_ioapic_address, is_lapic_address, unless_refused, write, pair_write, ioapic_store, lapic_store, port_out, store, ring_counter, rung, ring, number_of, does_publish, publishes_unless, would_publish, plan_on, outcome_of, with_counts, Step, opening, Leads, board_after, Space, Point, board_at, board_left, IsLegal, OfLegalHistories, rung_on, IsRefusedAlone, MakesTrigger, ChangesCountAlone, SignalsNothing, RingsAlone, SignalsNoMore, EndedSignalsNoMore, NoSignalOfDeassignedTrigger, or_neither}
+use Rattle.board_laws.proofs.Basics.{routing_on, last_is_one, ◌≡◌, ◌≢◌, ℕ, zero, suc, ◌-◌, ◌<◌, Bool, true, false, true≢false, ◌||◌, ◌⊎◌, inl, inr, if◌then◌else◌, List, [], ◌∷◌, refl, sym, ap, subst, ◌∙◌, arith, option_map, Some, None, find, slice_get, slice_set, Contains, list_any, Option, Contains-append_left, Contains-append_right, first_of, Call, Caller, Event, Rang, Entry, Refusal, Done, Refused, Part, Shape, Irqfd, TriggerWord, is_port, written, ticked, tick_injects, has_trigger, rung_by, Board, part_of, with_part, trigger_of, Plan, put, tell, reply, ◌>>◌, Wishes, Outcome, run, range_reasons, write_reasons, is_trigger, is_ioapic_address, is_lapic_address, unless_refused, write, pair_write, ioapic_store, lapic_store, port_out, store, ring_counter, rung, ring, number_of, does_publish, publishes_unless, would_publish, plan_on, outcome_of, with_counts, Step, opening, Leads, board_after, Space, Point, board_at, board_left, IsLegal, OfLegalHistories, rung_on, IsRefusedAlone, MakesTrigger, ChangesCountAlone, SignalsNothing, RingsAlone, SignalsNoMore, EndedSignalsNoMore, NoSignalOfDeassignedTrigger, or_neither}
 use Rattle.board_laws.proofs.Points.{split, kept, before_point, step_at, at_points}
 use Rattle.board_laws.proofs.ConservingAcks.{or_right, allows, Allowed, quiet_conserving}
 use Rattle.board_laws.proofs.ConservingCalls.{Lets, rung_quiet, call_keeps, tick_keeps}

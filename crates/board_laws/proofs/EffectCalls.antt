@@ -1,7 +1,7 @@
 -- A call that is answered with a status says what its status tells, and one without effect leaves the requests.
-use Rattle.board_laws.proofs.Basics.{routing_on, Holds, ended, after, changed, Signals, accept_pin_holds, let_go_holds, ◌≡◌, ℕ, Bool, true, false, nat_eq, if◌then◌else◌, ◌⊎◌, inl, inr, List, [], ◌∷◌, option_map, refl, sym, ap, ◌∙◌, subst, true≢false, Some, None, Option, first_of, Call, Caller, MsiWord, Source, Line, Resample, Targets, Refusal, Reply, Signal, Done, Lapic, Masked, Status, Raise, TickState, TriggerWord, raise_of, pin_outcome, message_in, ticked, tick_injects, tick_injected, Board, part_of, PicPart, IoapicPart, pair_of, ioapic_of, Routing, routing_of_registry, nobody, TargetAnswer, stood_already, no_effect, status_of, About, the_reply, done, change, reply, ◌>>◌, Wishes, Outcome, run, send, pic_raised, pic_answer, ioapic_raised, is_accepted, accept_pin, ioapic_answered, raise_other, raise, let_go, let_go_after, lowered_status, lower, inject, HasProcessors, range_reasons, unless_refused, source_of, trigger_written, write, tick_or_hold, number_of, plan_in_range, TickSource as Tick, Lowered, plan_on, outcome_of, with_counts, would_publish, Part, message_target, signal_targets, message_raised, pic_answer_on, raise_answer_on, IsSaidOf, is_without_effect, ChangesNoRequest, CoalescedAndIgnoredChangeNoRequest}
+use Rattle.board_laws.proofs.Basics.{routing_on, Holds, ended, after, changed, Signals, accept_pin_holds, let_go_holds, ◌≡◌, ℕ, Bool, true, false, nat_eq, if◌then◌else◌, ◌⊎◌, inl, inr, List, [], ◌∷◌, option_map, refl, sym, ap, ◌∙◌, subst, true≢false, Some, None, Option, first_of, Call, Caller, MsiWord, Source, Line, Resample, Targets, Refusal, Reply, Signal, Done, Lapic, Masked, Status, Raise, TickState, TriggerWord, raise_of, pin_outcome, message_in, ticked, tick_injects, tick_injected, Board, part_of, PicPart, IoapicPart, pair_of, ioapic_of, nobody, TargetAnswer, stood_already, no_effect, status_of, About, the_reply, done, change, reply, ◌>>◌, Wishes, Outcome, run, send, pic_raised, pic_answer, ioapic_raised, is_accepted, accept_pin, ioapic_answered, raise_other, raise, let_go, let_go_after, lowered_status, lower, inject, HasProcessors, range_reasons, unless_refused, source_of, trigger_written, write, tick_or_hold, number_of, plan_in_range, TickSource as Tick, Lowered, plan_on, outcome_of, with_counts, would_publish, Part, message_target, signal_targets, message_raised, pic_answer_on, raise_answer_on, IsSaidOf, is_without_effect, ChangesNoRequest, CoalescedAndIgnoredChangeNoRequest}
 use Rattle.board_laws.proofs.EffectStood.{raise_stood, raised_stood}
-use Rattle.board_laws.proofs.EffectMute.{mute, count_mute, call_mute, some_status}
+use Rattle.board_laws.proofs.EffectMute.{count_mute, call_mute, some_status}
 use Rattle.board_laws.proofs.EffectSends.{spared, Says, says_before, says_after, shown_says, send_says}
 
 -- ---- plans that leave the requests

@@ -1,5 +1,5 @@
 -- Along every legal history each processor has its local APIC, and a status without effect changes no request.
-use Rattle.board_laws.proofs.Basics.{◌≡◌, Bool, length, refl, sym, ap, ◌∙◌, subst, arith, Entry, Shape, Masked, Board, HasProcessors, Ignored, frame_stays, LapicsStand, plan_on, outcome_of, with_counts, would_publish, Step, opening, Point, board_at, board_left, IsLegal, OfLegalHistories, EffectlessChangesNoRequest, MaskedMeetsMask, LapicsStayInPlace, StatusesWithoutEffectChangeNoRequest, IgnoredMaskedIsMasked, apics_many}
+use Rattle.board_laws.proofs.Basics.{◌≡◌, Bool, length, refl, sym, ap, ◌∙◌, subst, arith, Entry, Shape, Masked, Board, Ignored, frame_stays, LapicsStand, plan_on, outcome_of, with_counts, would_publish, Step, opening, Point, board_at, board_left, IsLegal, OfLegalHistories, EffectlessChangesNoRequest, MaskedMeetsMask, LapicsStayInPlace, StatusesWithoutEffectChangeNoRequest, IgnoredMaskedIsMasked, apics_many}
 use Rattle.board_laws.proofs.Points.{step_at, holds_at, at_points}
 use Rattle.board_laws.proofs.PendingHistory.{opening_fine, step_stands}
 use Rattle.board_laws.proofs.EffectStood.{masked_only}

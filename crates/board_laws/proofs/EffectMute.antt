@@ -1,5 +1,5 @@
 -- The calls that answer no status: every call but a line, a message, a write and a tick.
-use Rattle.board_laws.proofs.Basics.{Walk, Holds, Shows, end_level_holds, Tells, tells_by, Ends, acks_hold, inject_tick_holds, Open, of_log, open_signals, open_shows, open_raise, open_accesses, open_rings, is_signal, Accesses, count_holds, inject_count_holds, rung_holds, take_holds, assign_holds, deassign_holds, reroute_holds, attach_holds, detach_holds, watch_holds, unwatch_holds, tick_mode_holds, port_out_holds, port_in_holds, store_holds, load_holds, next_holds, inta_holds, eoi_holds, ◌≡◌, ℕ, Bool, true, false, if◌then◌else◌, List, [], ◌∷◌, refl, ap, true≢false, None, ◌++◌, Option, Call, Reply, Shape, Routing, About, injected, resent, ipi, the_reply, reply, next_wish, later_wishes, resample, write, rung, io_row, plan_in_range, in_reply, replies_in}
+use Rattle.board_laws.proofs.Basics.{Walk, Holds, Shows, end_level_holds, tells_by, Ends, acks_hold, inject_tick_holds, Open, of_log, open_signals, open_shows, open_raise, open_accesses, open_rings, is_signal, Accesses, count_holds, inject_count_holds, rung_holds, take_holds, assign_holds, deassign_holds, reroute_holds, attach_holds, detach_holds, watch_holds, unwatch_holds, tick_mode_holds, port_out_holds, port_in_holds, store_holds, load_holds, next_holds, inta_holds, eoi_holds, ◌≡◌, ℕ, Bool, true, false, if◌then◌else◌, List, [], ◌∷◌, refl, ap, true≢false, None, ◌++◌, Option, Call, Reply, Shape, Routing, About, injected, resent, ipi, the_reply, reply, next_wish, later_wishes, resample, write, rung, io_row, plan_in_range, in_reply, replies_in}
 
 -- whether some reply is a status
 abbrev pub some_status : List Reply → Bool

@@ -1,5 +1,5 @@
 -- A sending whose status is without effect: what the status says, and that it changes no request.
-use Rattle.board_laws.proofs.Basics.{Walk, Holds, of_relation, either, ◌≡◌, ℕ, zero, suc, ◌<◌, Bool, true, false, not, ◌&&◌, ◌||◌, nat_eq, nat_lt, if◌then◌else◌, ◌⊎◌, inl, inr, List, [], ◌∷◌, ◌++◌, length, refl, sym, ap, ◌∙◌, subst, append-nil, true≢false, arith, Some, None, slice_get, slice_set, unwrap_or, Option, contains-empty, same_set, nat_cmp-IsAntisymmetric, nat_cmp, nat_cmp_total, Numbers, contains-insert_number, Message, Targets, Signal, Part, Registry, Counters, Tick, Pic, Ioapic, Lapic, Cause, NoProcessor, BadVector, BadMode, Status, Chip, PinOutcome, Pair, TickState, pin_outcome, LocalApic, power_on, is_enabled, is_nmi, is_taken, accepted, with_error, with_request, ValueOf, Board, part_of, with_part, PicPart, IoapicPart, pair_of, Sent, nobody, is_empty, TargetAnswer, newly_taken, stood_already, no_effect, message_answer, status_of, About, the_reply, Plan, done, put, answer, ◌>>=◌, Wishes, Outcome, run, Processor, named_by, numbers_of, MayReach, ignore, numbers_below, reached_by, see_each, is_illegal, accept_each, deliver, refuse_vector, send_to, send, pic_answer, processors_on, named_on, HasProcessors, IsSending, has_request_on, is_some, Mode, Lowest, chip_outcome, stands, part_of-with_other, run-bind, IsSent, after_seen, wishes_reach_exactly, has_any, named_alike, message_on, PicStood, IoapicStood, RequestStood, pic_answer_on, message_answer_by, message_answer_on, other_answer_on, IsSaidOf, is_without_effect, SameRequests, contains, insert, empty_of_len, empty}
+use Rattle.board_laws.proofs.Basics.{Walk, Holds, of_relation, either, ◌≡◌, ℕ, zero, suc, ◌<◌, Bool, true, false, not, ◌&&◌, ◌||◌, nat_eq, nat_lt, if◌then◌else◌, ◌⊎◌, inl, inr, List, [], ◌∷◌, ◌++◌, length, refl, sym, ap, ◌∙◌, subst, append-nil, true≢false, arith, Some, None, slice_get, slice_set, unwrap_or, Option, contains-empty, same_set, nat_cmp-IsAntisymmetric, nat_cmp, nat_cmp_total, Numbers, contains-insert_number, Message, Targets, Signal, Part, Lapic, Cause, NoProcessor, BadVector, BadMode, Status, Chip, PinOutcome, TickState, pin_outcome, LocalApic, power_on, is_enabled, is_nmi, is_taken, accepted, with_error, with_request, ValueOf, Board, part_of, with_part, PicPart, IoapicPart, pair_of, Sent, nobody, is_empty, TargetAnswer, newly_taken, stood_already, no_effect, message_answer, status_of, About, the_reply, Plan, done, put, answer, ◌>>=◌, Wishes, Outcome, run, Processor, named_by, numbers_of, MayReach, ignore, reached_by, see_each, is_illegal, accept_each, deliver, refuse_vector, send_to, send, pic_answer, processors_on, named_on, HasProcessors, IsSending, has_request_on, is_some, Mode, Lowest, chip_outcome, stands, part_of-with_other, run-bind, after_seen, wishes_reach_exactly, has_any, named_alike, message_on, PicStood, IoapicStood, RequestStood, pic_answer_on, message_answer_by, message_answer_on, other_answer_on, IsSaidOf, is_without_effect, SameRequests, contains, insert, empty_of_len, empty}
 use Rattle.board_laws.proofs.EffectStood.{has_stood, pin_stood, ignored_for}
 
 -- ---- plans that answer nothing and leave the requests of a board

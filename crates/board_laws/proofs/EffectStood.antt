@@ -1,5 +1,5 @@
 -- What stood where a chip answers that its pin stood, and that its pin is masked where it answers so.
-use Rattle.board_laws.proofs.Basics.{◌≡◌, ℕ, ◌+◌, ◌%◌, Bool, true, false, not, ◌&&◌, ◌||◌, nat_lt, if◌then◌else◌, ◌⊎◌, inl, inr, refl, sym, ap, ◌∙◌, true≢false, arith, Some, None, second_so, Option, Numbers, contains-set_below, Message, MsiWord, Targets, Cause, Masked, Chip, PinOutcome, Raise, pin_outcome, raise_of, message_of, message_in, is_high, Board, PicPart, IoapicPart, pair_of, ioapic_of, TargetAnswer, newly_taken, stood_already, no_effect, mod_small, set_below, chip_outcome as outcome_of, PicChip, chip_of, master_high, slave_high, ioapic_high, first_cause, chip_with_pin, is_pic_masked, PicPinsHaveTheirLines, is_pic_high, IsLatched, redirection_of, HasRemoteIrr, IsEdgeHigh, pic_answer_on, message_answer_on, raise_answer_on, other_answer_on, cause_on, lacks_effect, HasNoTarget, IsIgnoredFor, PicMasked, IoapicMasked, contains}
+use Rattle.board_laws.proofs.Basics.{◌≡◌, ℕ, ◌+◌, ◌%◌, Bool, true, false, not, ◌&&◌, ◌||◌, nat_lt, if◌then◌else◌, ◌⊎◌, inl, inr, refl, sym, ap, ◌∙◌, true≢false, arith, Some, None, second_so, Option, Numbers, contains-set_below, Message, MsiWord, Targets, Cause, Masked, Chip, PinOutcome, Raise, pin_outcome, raise_of, message_of, is_high, Board, PicPart, IoapicPart, pair_of, ioapic_of, TargetAnswer, no_effect, mod_small, set_below, chip_outcome as outcome_of, PicChip, chip_of, master_high, slave_high, ioapic_high, first_cause, chip_with_pin, is_pic_masked, PicPinsHaveTheirLines, is_pic_high, IsLatched, redirection_of, HasRemoteIrr, IsEdgeHigh, pic_answer_on, raise_answer_on, other_answer_on, cause_on, lacks_effect, HasNoTarget, IsIgnoredFor, PicMasked, IoapicMasked, contains}
 use borrow.Author.Tests.{ltb-true}
 
 -- what is in the numbers below a bound that pass, passes

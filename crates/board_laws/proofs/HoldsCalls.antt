@@ -1,5 +1,5 @@
 -- In every legal history Resample holds a pin only where the pin's GSI has a resampler.
-use Rattle.board_laws.proofs.Basics.{routing_on, Walk, Holds, after, MayRaise, is_plain, inject_count_holds, plain_holds, walk, shows, signals_kept, KeptBySignals, KeptByCalls, tick_kept, calls_kept, arith, ◌≡◌, ℕ, Bool, true, false, not, ◌||◌, nat_eq, nat_lt, List, [], ◌∷◌, ◌++◌, Some, None, refl, sym, ap, subst, ◌∙◌, true≢false, IsTrue, AllPairs, is_some, slice_index, contains-empty, Option, All-weaker, AllPairs-filter, first_of, Call, Caller, Row, Pin, Source, Resample, Line, TickSource, Entry, Refusal, Busy, RoleClash, Done, Removed, Shape, Irqfd, TickState, PinHolds, hold, hold_cmp, table_of, targets_of, refusal_of, gsi_of, default_rows, ticked, tick_injects, taken, Board, RegistryPart, Routing, routing_of_registry, injected, the_reply, Plan, reply, ◌>>◌, Wishes, run, is_signalled, resample_clashes, is_trigger, range_reasons, assign_reasons, attach_reasons, detach_reasons, watch_reasons, unwatch_reasons, unless_refused, source_of, inject_count, was_last_resampler, release, deassigned, kept_holds, tick_or_hold, number_of, io_row, plan_in_range, default_rows-kept, no_reason, HasResampler, ResamplersHold, would_publish, plan_on, outcome_of, with_counts, Step, opening, more_for, less_for, IsMade, irqfd_resamples, pic_resamples, ioapic_resamples, each_fails, pairs_push, line_is_not, tick_is_not, resamples_if, more_resampler, own_row, freed_run, without, kept_for, kept_resampler, freed_pic, freed_ioapic, OfLegalHistories, HoldsForResamplers, ResampleHoldsForResamplers, empty, named_row, without_row, with_row, has_trigger, has_resampler, is_named}
+use Rattle.board_laws.proofs.Basics.{routing_on, Walk, Holds, after, MayRaise, is_plain, inject_count_holds, plain_holds, walk, shows, signals_kept, KeptBySignals, KeptByCalls, tick_kept, calls_kept, arith, ◌≡◌, ℕ, Bool, true, false, not, ◌||◌, nat_lt, List, [], ◌∷◌, ◌++◌, Some, None, refl, sym, ap, subst, ◌∙◌, true≢false, IsTrue, AllPairs, is_some, slice_index, contains-empty, Option, All-weaker, AllPairs-filter, first_of, Call, Caller, Row, Pin, Source, Resample, Line, TickSource, Entry, Refusal, Busy, RoleClash, Done, Removed, Shape, Irqfd, TickState, PinHolds, hold, hold_cmp, table_of, targets_of, refusal_of, gsi_of, default_rows, ticked, tick_injects, taken, Board, RegistryPart, Routing, routing_of_registry, injected, the_reply, Plan, reply, ◌>>◌, Wishes, run, is_signalled, resample_clashes, is_trigger, range_reasons, assign_reasons, attach_reasons, detach_reasons, watch_reasons, unwatch_reasons, unless_refused, source_of, inject_count, was_last_resampler, release, deassigned, kept_holds, tick_or_hold, number_of, io_row, plan_in_range, default_rows-kept, no_reason, HasResampler, ResamplersHold, would_publish, plan_on, outcome_of, with_counts, Step, opening, more_for, less_for, IsMade, irqfd_resamples, pic_resamples, ioapic_resamples, each_fails, pairs_push, line_is_not, tick_is_not, resamples_if, more_resampler, own_row, freed_run, without, kept_for, kept_resampler, freed_pic, freed_ioapic, OfLegalHistories, ResampleHoldsForResamplers, empty, named_row, without_row, with_row, has_trigger, has_resampler, is_named}
 use Rattle.board_laws.proofs.Points.{of_boards}
 
 -- ---- the calls that leave the registry

@@ -1,5 +1,5 @@
 -- Requests stay pending until they are taken, along every legal history.
-use Rattle.board_laws.proofs.Basics.{routing_on, ◌≡◌, ℕ, ◌+◌, Bool, true, false, All, ◌&&◌, ◌||◌, ◌⊎◌, inl, inr, List, [], ◌∷◌, ◌++◌, map, length, refl, sym, ap, subst, ◌∙◌, arith, slice_get, unwrap_or, list_any, is_allowed, first_of, Call, Caller, Entry, Message, Reply, Shape, LocalApic, power_on, Board, Routing, routing_of_registry, Sending, numbers_below, has_request_on, range_reasons, number_of, frame_stays, would_publish, plan_on, outcome_of, with_counts, Step, Leads, wishes_shown, next_board, Point, board_at, board_left, IsLegal, OfLegalHistories, sendings_of, takes_by, is_processor, is_ack, takes, IsPendingOrTaken, SendingStands, SendingsStand, RequestsStayPending, steps_are_followed, next_is, number_at, apics_many, apics_numbered}
+use Rattle.board_laws.proofs.Basics.{routing_on, ◌≡◌, ℕ, ◌+◌, Bool, true, false, All, ◌&&◌, ◌||◌, ◌⊎◌, inl, inr, List, [], ◌∷◌, ◌++◌, map, length, refl, sym, ap, subst, ◌∙◌, arith, slice_get, unwrap_or, list_any, is_allowed, first_of, Call, Caller, Entry, Message, Reply, Shape, LocalApic, power_on, Board, Sending, numbers_below, has_request_on, range_reasons, number_of, frame_stays, would_publish, plan_on, outcome_of, with_counts, Step, Leads, wishes_shown, next_board, Point, board_at, board_left, IsLegal, OfLegalHistories, sendings_of, takes_by, is_processor, is_ack, takes, IsPendingOrTaken, SendingStands, SendingsStand, RequestsStayPending, steps_are_followed, next_is, number_at, apics_many, apics_numbered}
 use Rattle.board_laws.proofs.Points.{step_at, after_point, holds_at, at_points}
 use Rattle.board_laws.proofs.PendingPlans.{or_later, has, at, Fine, IsMade, Good}
 use Rattle.board_laws.proofs.PendingCalls.{call_safe}

@@ -1,5 +1,5 @@
 -- Plans that lose no request, and whose sendings leave one at each processor that they reach.
-use Rattle.board_laws.proofs.Basics.{Walk, ◌≡◌, ℕ, ◌≤◌, zero, suc, Bool, true, false, not, ◌||◌, All, nat_eq, nat_lt, if◌then◌else◌, ◌⊎◌, inl, inr, List, [], ◌∷◌, ◌++◌, map, length, refl, sym, ap, subst, ◌∙◌, arith, slice_get, slice_set, unwrap_or, All-nil, All-append, Numbers, contains-insert_number, Message, Part, Lapic, LocalApic, power_on, is_enabled, is_nmi, accepted, with_error, with_request, ValueOf, Board, part_of, with_part, Plan, done, look, put, tell, answer, choose, ◌>>=◌, Sending, Wishes, next_wish, later_wishes, run, reached, Processor, does_hear, MayReach, see_each, is_illegal, processors_on, named_on, part_of-with_other, lapics-with, run-bind, seen_each, after_seen, sendings_of, contains, insert}
+use Rattle.board_laws.proofs.Basics.{Walk, ◌≡◌, ℕ, ◌≤◌, zero, suc, Bool, true, false, not, ◌||◌, All, nat_eq, nat_lt, if◌then◌else◌, ◌⊎◌, inl, inr, List, [], ◌∷◌, ◌++◌, map, length, refl, sym, ap, subst, ◌∙◌, arith, slice_get, slice_set, unwrap_or, All-nil, All-append, Numbers, contains-insert_number, Message, Part, Lapic, LocalApic, power_on, is_enabled, is_nmi, accepted, with_error, with_request, ValueOf, Board, part_of, with_part, Plan, done, look, put, tell, answer, choose, ◌>>=◌, Sending, Wishes, next_wish, later_wishes, run, reached, Processor, does_hear, MayReach, see_each, is_illegal, processors_on, named_on, part_of-with_other, lapics-with, run-bind, seen_each, after_seen, sendings_of, contains}
 
 -- ---- requests of one local APIC
 

@@ -1,5 +1,5 @@
 -- A sending loses no request, reaches a set that it may reach, and leaves its request at each processor of it.
-use Rattle.board_laws.proofs.Basics.{Shows, ignored, ◌≡◌, ℕ, ◌<◌, ◌≤◌, zero, suc, Bool, true, false, All, cond, ◌+◌, not, nat_eq, nat_lt, if◌then◌else◌, ◌⊎◌, inl, inr, filter, List, [], ◌∷◌, ◌++◌, map, length, refl, sym, ap, subst, ◌∙◌, arith, length-append, Option, All-nil, Numbers, Message, Lapic, Cause, NoProcessor, BadVector, BadMode, Shorthand, LocalApic, is_taken, accepted, Board, part_of, with_part, Sent, TargetAnswer, message_answer, About, injected, resent, ipi, the_reply, Plan, done, put, ◌>>=◌, ◌>>◌, Sending, Wishes, next_wish, later_wishes, run, reached, Processor, does_hear, named_by, chosen_of, numbers_of, MayReach, show, ignore, numbers_below, only, reached_by, see_each, is_illegal, parted, accept_each, deliver, refuse_vector, send_to, send, processors_on, named_on, IsSending, All-cons, filter-append, frame_stays, is_addressed, is_named_cpu as is_named, Each, both_hold, each_passing, each_chosen, each_weaker, told_of, after_seen, of_reached, all_reached, wishes_reach_exactly, sendings_of, accepted_number, contains}
+use Rattle.board_laws.proofs.Basics.{Shows, ignored, ◌≡◌, ℕ, ◌<◌, ◌≤◌, zero, suc, Bool, true, false, All, cond, ◌+◌, not, nat_eq, nat_lt, if◌then◌else◌, ◌⊎◌, inl, inr, filter, List, [], ◌∷◌, ◌++◌, map, length, refl, sym, ap, subst, ◌∙◌, arith, length-append, Option, All-nil, Numbers, Message, Lapic, Cause, NoProcessor, BadVector, BadMode, Shorthand, LocalApic, is_taken, accepted, Board, part_of, with_part, Sent, TargetAnswer, message_answer, About, the_reply, Plan, done, put, ◌>>=◌, ◌>>◌, Sending, Wishes, next_wish, later_wishes, run, reached, Processor, does_hear, named_by, chosen_of, numbers_of, MayReach, show, ignore, numbers_below, only, reached_by, see_each, is_illegal, parted, accept_each, deliver, refuse_vector, send_to, send, processors_on, named_on, IsSending, All-cons, filter-append, frame_stays, is_addressed, is_named_cpu as is_named, Each, both_hold, each_passing, each_chosen, each_weaker, told_of, after_seen, of_reached, all_reached, wishes_reach_exactly, sendings_of, accepted_number, contains}
 use Rattle.board_laws.proofs.PendingPlans.{logged, has, KeepsRequests, accepted_keeps, accepted_has, at, Fine, after_put, IsMade, quiet, GoodRun, Safe, safe_put, same_run, safe, seen_sendings}
 
 first_of_one : {X : Type 0} (x y : X) → x ∷ [] ≡ y ∷ [] → x ≡ y

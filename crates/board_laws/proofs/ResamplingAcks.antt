@@ -1,5 +1,5 @@
 -- What plans leave whose acknowledges resample: the counts that their events tell, and no pin more for Resample.
-use Rattle.board_laws.proofs.Basics.{arith, Holds as HoldsOf, ◌≡◌, ℕ, Bool, true, false, cond, List, [], ◌∷◌, ◌++◌, map, Some, None, refl, sym, ap, subst, ◌∙◌, append_assoc, Option, unsigned_Decides, signalled, signalled_all, Event, Acked, Resampled, Watched, Pin, Resample, PinHolds as Holds, hold, has_resampler, resample_events, Table, targets_of, has_pin, gsi_of, RegistryPart, Board, with_part, Plan, ◌>>◌, Wishes, Outcome, then_run, run, let_go_pic, let_go_ioapic, say_each, signal_each, find, fold-append, is_same_pin as is_same, Part, counter_told, counters_told, IsReleased, contains, remove}
+use Rattle.board_laws.proofs.Basics.{arith, Holds as HoldsOf, ◌≡◌, ℕ, Bool, true, false, cond, List, [], ◌∷◌, ◌++◌, map, Some, None, refl, sym, ap, subst, ◌∙◌, append_assoc, Option, unsigned_Decides, signalled_all, Event, Acked, Resampled, Watched, Pin, Resample, PinHolds as Holds, hold, has_resampler, resample_events, Table, targets_of, has_pin, gsi_of, RegistryPart, Board, with_part, Plan, ◌>>◌, Wishes, Outcome, then_run, run, let_go_pic, let_go_ioapic, say_each, signal_each, find, fold-append, is_same_pin as is_same, Part, counter_told, counters_told, IsReleased, contains, remove}
 use Rattle.std.specs.FinMap as fin_map
 use Rattle.board_laws.proofs.ResamplingPlans.{gone, NoMore, no_more, AreQuiet, Leaves, left}
 

@@ -1,5 +1,5 @@
 -- What calls leave: they acknowledge as they are to, or they tell no acknowledge at all.
-use Rattle.board_laws.proofs.Basics.{Holds, Signals, inject_tick_holds, open_signals, open_raise, open_rings, open_replied, is_signal, Replied, line_holds, message_holds, write_holds, inject_count_holds, take_holds, tick_or_hold_holds, assign_holds, deassign_holds, reroute_holds, attach_holds, detach_holds, watch_holds, unwatch_holds, rung_holds, ioapic_store_holds, load_holds, pair_write_holds, pair_read_holds, lapic_store_holds, next_holds, inta_holds, eoi_holds, ◌≡◌, ℕ, ◌-◌, Bool, true, false, if◌then◌else◌, ◌⊎◌, inl, inr, Some, None, refl, Option, first_of, Call, Caller, Space, Refusal, Reply, Exit, Shape, is_port, ticked, tick_injects, rung_by, RegistryPart, Routing, routing_of_registry, Board, injected, the_reply, Plan, reply, Wishes, run, range_reasons, is_ioapic_address, is_lapic_address, unless_refused, line_set, message_sent, write, take, inject_count, assign, deassign, reroute, attach, detach, watch, unwatch, end_of_interrupt, inta, next_interrupt, pair_write, pair_read, ioapic_store, lapic_store, rung, ring, store, load, number_of, io_row, plan_in_range, plan_of, inject_tick}
+use Rattle.board_laws.proofs.Basics.{Holds, Signals, inject_tick_holds, open_signals, open_raise, open_rings, open_replied, is_signal, Replied, line_holds, message_holds, write_holds, inject_count_holds, take_holds, tick_or_hold_holds, assign_holds, deassign_holds, reroute_holds, attach_holds, detach_holds, watch_holds, unwatch_holds, rung_holds, ioapic_store_holds, load_holds, pair_write_holds, pair_read_holds, lapic_store_holds, next_holds, inta_holds, eoi_holds, ◌≡◌, ℕ, ◌-◌, Bool, true, false, if◌then◌else◌, ◌⊎◌, inl, inr, Some, None, refl, Option, first_of, Call, Caller, Space, Refusal, Reply, Exit, Shape, is_port, ticked, tick_injects, rung_by, RegistryPart, Routing, routing_of_registry, Board, injected, the_reply, Plan, reply, Wishes, run, range_reasons, is_ioapic_address, is_lapic_address, unless_refused, line_set, message_sent, write, take, assign, deassign, reroute, attach, detach, watch, unwatch, end_of_interrupt, inta, next_interrupt, pair_write, pair_read, ioapic_store, lapic_store, rung, ring, store, load, number_of, io_row, plan_in_range, plan_of}
 use Rattle.board_laws.proofs.ResamplingPlans.{AreQuiet, quiet, quiet_open, quiet_shows, same}
 use Rattle.board_laws.proofs.ResamplingOwed.{Pays, pays, Settles, pays_accesses}
 

@@ -1,7 +1,7 @@
 -- What an acknowledge leaves: each resample counter of its GSI is told at once, and no other; and Resample lets its pins go.
-use Rattle.board_laws.proofs.Basics.{or_neither, Walk, Holds as HoldsOf, of_relation, ended, after, let_go_holds, resend_holds, end_tick_holds, Accesses, ◌≡◌, ℕ, Bool, true, false, not, ◌&&◌, ◌||◌, nat_eq, cond, filter, if◌then◌else◌, List, [], ◌∷◌, ◌++◌, map, Some, None, refl, sym, ap, subst, ◌∙◌, append_assoc, append-nil, filter_map, is_some, Option, cons_option, Event, Acked, Resampled, Watched, Pin, Resample, Targets, Shape, signalled_all, Irqfd, Watch, has_resampler, resample_of, resampled, resample_events, has_watch, watched, watch_events, targets_of, RegistryPart, Routing, routing_of_registry, Board, with_part, resent, Plan, done, tell, ◌>>◌, ipi, reply, Wishes, Outcome, then_run, run, send, let_go, resend, signal_each, resample, notify, resample_and_notify, tell_concerned, end_level, end_tick, acknowledge, acknowledge_each, run-bind, Part, signal_told, signals_told, signal_owed, signals_owed, counters_told}
+use Rattle.board_laws.proofs.Basics.{or_neither, Walk, Holds as HoldsOf, of_relation, ended, after, let_go_holds, resend_holds, end_tick_holds, Accesses, ◌≡◌, ℕ, true, false, not, ◌&&◌, ◌||◌, nat_eq, cond, filter, if◌then◌else◌, List, [], ◌∷◌, ◌++◌, map, Some, None, refl, sym, ap, subst, ◌∙◌, append_assoc, append-nil, filter_map, is_some, Option, cons_option, Event, Acked, Resampled, Watched, Pin, Resample, Targets, Shape, signalled_all, Irqfd, Watch, has_resampler, resample_of, resampled, resample_events, has_watch, watched, watch_events, targets_of, RegistryPart, Routing, routing_of_registry, Board, with_part, resent, Plan, done, tell, ◌>>◌, ipi, reply, Wishes, Outcome, then_run, run, send, let_go, resend, signal_each, resample, notify, resample_and_notify, tell_concerned, end_level, end_tick, acknowledge, acknowledge_each, run-bind, Part, signal_told, signals_told, signal_owed, signals_owed, counters_told}
 use Rattle.board_laws.proofs.ResamplingPlans.{AreQuiet, no_more, Stays, same, left, shows_left, left_signals, left_ends}
-use Rattle.board_laws.proofs.ResamplingAcks.{has_it, same_number, Resamples, Does, Acks, then_does, acks_quietly, resamples_later, Said, said, resamples_tell, watches_tell, signal_acks, LetsGo, lets_go}
+use Rattle.board_laws.proofs.ResamplingAcks.{has_it, same_number, Resamples, Does, Acks, then_does, acks_quietly, resamples_later, said, resamples_tell, watches_tell, signal_acks, LetsGo, lets_go}
 
 -- ---- what events tell and owe
 

@@ -1,5 +1,5 @@
 -- What plans without an acknowledge leave: their events are none of an acknowledge, and Resample holds no pin more of a choice.
-use Rattle.board_laws.proofs.Basics.{Walk, Holds as HoldsOf, of_relation, Shows, Signals, MayRaise, shows_by, end_level_holds, Ends, inject_tick_holds, Open, of_log, open_shows, ◌≡◌, ℕ, Bool, true, false, not, ◌&&◌, ◌||◌, List, [], ◌∷◌, ◌++◌, refl, sym, ap, ◌∙◌, Option, tied_itself, contains-insert, contains-remove, eq_by_cmp, is_eq, Event, Acked, Resampled, Watched, Source, Resample, TickSource, Targets, Shape, Hold, PinHolds as Holds, hold, hold_cmp, RegistryPart, Board, with_part, Sent, TargetAnswer, About, injected, resent, ipi, the_reply, events_of, next_wish, later_wishes, Outcome, run, routing_of_registry, show, hold_cmp_total, tied_same, contains, insert, remove}
+use Rattle.board_laws.proofs.Basics.{Walk, Holds as HoldsOf, of_relation, Shows, Signals, MayRaise, shows_by, end_level_holds, Ends, inject_tick_holds, Open, of_log, open_shows, ◌≡◌, ℕ, Bool, true, false, not, ◌&&◌, ◌||◌, List, [], ◌∷◌, ◌++◌, refl, sym, ap, ◌∙◌, Option, tied_itself, contains-insert, contains-remove, eq_by_cmp, is_eq, Event, Acked, Resampled, Watched, Source, Resample, TickSource, Targets, Shape, Hold, PinHolds as Holds, hold, hold_cmp, RegistryPart, Board, with_part, Sent, TargetAnswer, About, injected, resent, the_reply, events_of, next_wish, later_wishes, Outcome, run, routing_of_registry, show, hold_cmp_total, tied_same, contains, insert, remove}
 
 -- ---- holds
 
