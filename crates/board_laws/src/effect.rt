@@ -5,6 +5,7 @@ ghost use Rattle.board_laws.specs.Effect.{CoalescedAndIgnoredChangeNoRequest, La
 
 /// A law: a reply that is Coalesced or Ignored answers a call with targets, and says what stood there or the cause; every IRR
 /// is as before. So it is in each step from a board on which each processor has a local APIC with its number.
+#[tactic(auto, using(crate::proofs::EffectCalls::coalesced_and_ignored_change_no_request))]
 pub fn coalesced_and_ignored_change_no_request()
     ensures { CoalescedAndIgnoredChangeNoRequest }
 {}
