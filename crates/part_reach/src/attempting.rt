@@ -19,7 +19,8 @@ ghost use Rattle.part_attempt.specs.declared.not_now.NotNow.TheVariants as reaso
 ghost use Rattle.part_reach.specs.Wants.{IsWanted, IsUnread};
 ghost use Rattle.part_reach.specs.UnderWay.{HasLooked, HoldsPlaces, IsUnderWay, LooksAgain, wants_left, CameTo};
 
-use crate::fetching::{fetch, look};
+use crate::beginning::begin;
+use crate::fetching::fetch;
 use crate::running::run;
 use irq_base::{Call, Caller, Done, Events, Shape, Spent};
 use part_attempt::{NotNow, Places};
@@ -59,7 +60,13 @@ fn until_answered(
     ensures in_hand { AreAt places.new.items room.new.rig.parts }
     ensures noted { AreNoted (view_of pen.new.seat).notes room.new.rig.known.places.items }
 {
-    let mut had = look(book, pen, room);
+    let mut had = match begin(book, pen, shape, places, room, caller, call) {
+        Ok(had) => had,
+        Err(part) => {
+            events.clear();
+            return Err(NotNow::Busy { part });
+        }
+    };
     'runs: loop {
         let ran = run(
             book,

@@ -19,3 +19,7 @@ returns-in-Err-fetch-clause-came c =
     let u : Seen = view_of c.args.pen.now.seat in
     let way = subst (λ (x : Seen). IsUnderWay c.args.shape.now c.args.caller c.args.call.now u x c.runs.had c.runs.places.items) (sym c.in-Err.ensures.stays) c.runs.invariant.way in
     subst (λ (es : List Event). CameTo c.args.shape.now c.args.caller c.args.call.now u (view_of c.fetch.new.pen.seat) (Err (reasons.Busy c.in-Err-fetch.part)) es) (sym c.in-Err.ensures.untold) (c.in-Err-fetch.ensures.busy u way)
+
+pub returns-in-Err-clause-came : goal.returns-in-Err-clause-came
+returns-in-Err-clause-came c =
+    subst (λ (es : List Event). CameTo c.args.shape.now c.args.caller c.args.call.now (view_of c.args.pen.now.seat) (view_of c.begin.new.pen.seat) (Err (reasons.Busy c.in-Err.part)) es) (sym c.clear.ensures) c.in-Err.ensures.busy
