@@ -59,8 +59,7 @@ message_is_reached address payload cpus few = by (bits_of address 63 20 == 0xfee
 -- what is reached by whether a test holds
 by_test : (t : Bool) (x y : Option Part) (u v : Part → Bool) → IfSome x (λ p. u p ≡ true) → IfSome y (λ p. v p ≡ true)
     → IfSome (if t then x else y) (λ p. (if t then u p else v p) ≡ true)
-by_test true x y u v yes no = yes
-by_test false x y u v yes no = no
+by_test t x y u v here there = elim t as (λ t. IfSome (if t then x else y) (λ p. (if t then u p else v p) ≡ true)) [ true ↦ here | false ↦ there ]
 
 itself_or : (n : ℕ) (rest : Bool) → (nat_eq n n || rest) ≡ true
 itself_or n rest = ap (λ t. t || rest) (number_itself n)

@@ -96,11 +96,13 @@ fn until_answered(
 /// where it found the turn of that part taken; `Moved` and `Front`, where its one exchange found another front than its last look
 /// before. Where there is no entry, no event is handed out, and no part changes.
 ///
-/// It takes the turns of parts that the call reaches, and of no others.
+/// It takes the turns of parts that the call reaches, and of no others. What stands in `places` before it means nothing; afterwards
+/// the places of the turns that it took stand there.
 pub fn attempt(
     book: &TurnBook<RunningBoard>,
     pen: &mut Pen<RunningBoard>,
     shape: &Shape,
+    places: &mut Places,
     room: &mut Workroom,
     caller: Caller,
     call: &Call,
@@ -125,8 +127,8 @@ pub fn attempt(
     ensures in_hand { AreAt [] room.new.rig.parts }
     ensures noted { AreNoted (view_of pen.new.seat).notes room.new.rig.known.places.items }
 {
-    let mut places = Places::new();
-    let answer = until_answered(book, pen, shape, &mut places, room, caller, call, events);
+    places.clear();
+    let answer = until_answered(book, pen, shape, places, room, caller, call, events);
     book.give_all(pen, places.as_slice());
     room.begin(places.as_slice());
     answer

@@ -1,5 +1,5 @@
 //! The first look of an attempt, and the turn that is tried before it.
-ghost use Rattle.std.specs.Prelude.{◌≡◌, [], true, Some, Err, IfOk, IfErr, IfSome};
+ghost use Rattle.std.specs.Prelude.{◌≡◌, ◌+◌, [], true, Some, Err, IfOk, IfErr, IfSome};
 ghost use Rattle.irq_base.specs.Callers.{is_allowed};
 ghost use Rattle.board_raise.specs.Fit.{InLimits};
 ghost use Rattle.board_step.specs.History.{opening};
@@ -13,8 +13,8 @@ ghost use Rattle.part_rig.specs.Rooms.{IsRoomFor, AreAt};
 ghost use Rattle.part_attempt.specs.declared.not_now.NotNow.TheVariants as reasons;
 ghost use Rattle.part_reach.specs.UnderWay.{HasLooked, HoldsPlaces, IsUnderWay, CameTo};
 
-use crate::fetching::{look, win_turn};
 use crate::by_table::sure;
+use crate::fetching::{look, win_turn};
 use irq_base::{Call, Caller, Part, Shape};
 use part_attempt::Places;
 use part_machine::RunningBoard;

@@ -77,14 +77,14 @@ fn sure_part(shape: &Shape, n: u16, call: &Call) -> Option<Part>
         Call::Take { .. } => Some(Part::Counters),
         Call::Tick | Call::TickMode { .. } => Some(Part::Tick),
         Call::PortOut { port, .. } => {
-            if is_port(*port) {
+            if is_port(*port as u64) {
                 Some(Part::Pic)
             } else {
                 Some(Part::Registry)
             }
         }
         Call::PortIn { port, .. } => {
-            if is_port(*port) {
+            if is_port(*port as u64) {
                 Some(Part::Pic)
             } else {
                 None
