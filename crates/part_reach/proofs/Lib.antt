@@ -9,3 +9,4 @@ pub mod Places
 pub mod Sure
 pub mod Fetched
 pub mod Begun
+pub mod Besides

@@ -19,7 +19,7 @@ ghost use Rattle.part_attempt.specs.declared.not_now.NotNow.TheVariants as reaso
 ghost use Rattle.part_reach.specs.Wants.{IsWanted, IsUnread};
 ghost use Rattle.part_reach.specs.UnderWay.{HasLooked, HoldsPlaces, IsUnderWay, LooksAgain, wants_left, CameTo};
 
-use crate::beginning::begin;
+use crate::beginning::set_out;
 use crate::fetching::fetch;
 use crate::running::run;
 use irq_base::{Call, Caller, Done, Events, Shape, Spent};
@@ -60,7 +60,7 @@ fn until_answered(
     ensures in_hand { AreAt places.new.items room.new.rig.parts }
     ensures noted { AreNoted (view_of pen.new.seat).notes room.new.rig.known.places.items }
 {
-    let mut had = match begin(book, pen, shape, places, room, caller, call) {
+    let mut had = match set_out(book, pen, shape, places, room, caller, call) {
         Ok(had) => had,
         Err(part) => {
             events.clear();

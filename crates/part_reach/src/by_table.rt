@@ -12,7 +12,7 @@ use msi_decode::decode;
 
 // The number of the caller.
 #[inline]
-fn number_of(caller: Caller) -> u16
+pub(crate) fn number_of(caller: Caller) -> u16
     ensures { result ≡ number_of caller }
 {
     match caller {

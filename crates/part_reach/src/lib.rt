@@ -6,12 +6,13 @@
 //!
 //! Where the table of reach names a part on every board, its turn is tried before the first look, and mostly one run is enough.
 //!
-//! Reading order of the definitions: `Turns` (whose turns are taken), `Sure`, `Copies`, `Limits`, `Wants`, `Entered`,
+//! Reading order of the definitions: `Turns` (whose turns are taken), `Sure`, `Beside`, `Copies`, `Limits`, `Wants`, `Entered`,
 //! `UnderWay` (what an attempt comes to).
 #![tactic(auto)]
 
 mod attempting;
 mod beginning;
+mod beside;
 mod by_table;
 mod copying;
 mod entering;

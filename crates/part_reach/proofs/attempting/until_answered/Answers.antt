@@ -22,4 +22,4 @@ returns-in-Err-fetch-clause-came c =
 
 pub returns-in-Err-clause-came : goal.returns-in-Err-clause-came
 returns-in-Err-clause-came c =
-    subst (λ (es : List Event). CameTo c.args.shape.now c.args.caller c.args.call.now (view_of c.args.pen.now.seat) (view_of c.begin.new.pen.seat) (Err (reasons.Busy c.in-Err.part)) es) (sym c.clear.ensures) c.in-Err.ensures.busy
+    subst (λ (es : List Event). CameTo c.args.shape.now c.args.caller c.args.call.now (view_of c.args.pen.now.seat) (view_of c.set_out.new.pen.seat) (Err (reasons.Busy c.in-Err.part)) es) (sym c.clear.ensures) c.in-Err.ensures.busy
