@@ -51,6 +51,7 @@ impl LiveBoard {
             &self.book,
             &mut pass.pen,
             &self.shape,
+            &mut pass.places,
             &mut pass.room,
             caller,
             call,

@@ -1,5 +1,3 @@
 pub mod Copied
-pub mod Rooms
 pub mod RoomStays
 pub mod Gathering
-pub mod Places

@@ -6,9 +6,7 @@ use Rattle.board_raise.specs.OnRow.{Row}
 use Rattle.lapic.specs.Registers.{LocalApic}
 use Rattle.part_slots.specs.declared.slot.Slot.{Slot}
 use Rattle.part_slots.specs.declared.slot.Slot.TheVariants as slots
-use Rattle.part_copies.specs.declared.room.Room.{Room}
 use Rattle.part_copies.specs.Copied.{IsLong, RoomFor, with_copy}
-use Rattle.part_copies.specs.Rooms.{HasRoomFor, copied_in}
 
 length-set : (row : Row) (n : ℕ) (place : Option LocalApic) → length (slice_set row n place) ≡ length row
 length-set [] n place = refl
@@ -44,6 +42,3 @@ room_stays p q x (slots.Tick other) c here there = tt
 room_stays p q x (slots.Pic other) c here there = tt
 room_stays p q x (slots.Ioapic other) c here there = tt
 room_stays p q x (slots.Lapic other) c here (low, few) = (subst (λ n. q - 5 < n) (sym (row_stays x p c)) low, few)
-
-pub room_stays_in : (p q : ℕ) (x y : Slot) (c : Room) → HasRoomFor p x c → HasRoomFor q y c → HasRoomFor q y (copied_in p x c)
-room_stays_in p q x y c here there = room_stays p q x y c.parts here there

@@ -89,8 +89,8 @@ module _ (shape : Shape) (caller : Caller) (v w : Seen) (had next : Front) (more
   }
 
 -- the first look of an attempt
-pub first_looked : (shape : Shape) (caller : Caller) (u v : Seen) (had : Front) → u.begin ≡ Some (opening shape) → u.caller ≡ Some (caller_number caller) → LooksAgain u v [] had → HasLooked shape caller v had
-first_looked shape caller u v had begins named again = record {
+pub first_looked : (shape : Shape) (caller : Caller) (u v : Seen) (more : List ℕ) (had : Front) → u.begin ≡ Some (opening shape) → u.caller ≡ Some (caller_number caller) → LooksAgain u v more had → HasLooked shape caller v had
+first_looked shape caller u v more had begins named again = record {
   begins = again.place.0 ∙ begins;
   named = again.place.2 ∙ named;
   legal = again.legal;
@@ -165,15 +165,6 @@ pub fewer_left : (had next : Front) (n n' b b' : ℕ) → had.generation ≤ nex
 fewer_left had next n n' b b' rise most few turns same more = left_less (69 - n) (69 - n') had.generation next.generation b b' rise most few (λ is. (let less = same is in omega (arith, less, turns, more))) (omega (arith, turns, more))
 
 -- ---- what is wanted, by what it was
-
--- no more is in hand than at the places before
-pub in_hand_after : (r : Result Front Part) (places after : List ℕ) (turn : ℕ) → IfOk r (λ next. after ≡ places ++ turn ∷ []) → IfErr r (λ p. after ≡ places) → (q : ℕ) → is_in q after ≡ false → is_in q places ≡ false
-in_hand_after (Ok next) places after turn won stays q out = by (nat_eq turn q) (is_in q places) (sym (in_push q turn places) ∙ ap (is_in q) (sym won) ∙ out)
-  where
-    by : (s t : Bool) → (s || t) ≡ false → t ≡ false
-    by true t e = absurd (true≢false e)
-    by false t e = e
-in_hand_after (Err p) places after turn won stays q out = ap (is_in q) (sym stays) ∙ out
 
 module _ (shape : Shape) (caller : Caller) (call : Call) (v w : Seen) (had : Front) (places after : List ℕ) (old new : List (Option Reading)) (looked : HasLooked shape caller v had) where
   -- a word was read

@@ -6,4 +6,7 @@ pub mod Entered
 pub mod Runs
 pub mod Ways
 pub mod Places
+pub mod Sure
 pub mod Fetched
+pub mod Begun
+pub mod Besides

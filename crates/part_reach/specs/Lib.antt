@@ -2,6 +2,8 @@ pub mod Copies
 pub mod Limits
 pub mod Entered
 pub mod Turns
+pub mod Sure
+pub mod Beside
 pub mod Wants
 pub mod UnderWay
 pub mod Kept

@@ -19,7 +19,8 @@ ghost use Rattle.part_attempt.specs.declared.not_now.NotNow.TheVariants as reaso
 ghost use Rattle.part_reach.specs.Wants.{IsWanted, IsUnread};
 ghost use Rattle.part_reach.specs.UnderWay.{HasLooked, HoldsPlaces, IsUnderWay, LooksAgain, wants_left, CameTo};
 
-use crate::fetching::{fetch, look};
+use crate::beginning::set_out;
+use crate::fetching::fetch;
 use crate::running::run;
 use irq_base::{Call, Caller, Done, Events, Shape, Spent};
 use part_attempt::{NotNow, Places};
@@ -59,7 +60,13 @@ fn until_answered(
     ensures in_hand { AreAt places.new.items room.new.rig.parts }
     ensures noted { AreNoted (view_of pen.new.seat).notes room.new.rig.known.places.items }
 {
-    let mut had = look(book, pen, room);
+    let mut had = match set_out(book, pen, shape, places, room, caller, call) {
+        Ok(had) => had,
+        Err(part) => {
+            events.clear();
+            return Err(NotNow::Busy { part });
+        }
+    };
     'runs: loop {
         let ran = run(
             book,
@@ -89,11 +96,13 @@ fn until_answered(
 /// where it found the turn of that part taken; `Moved` and `Front`, where its one exchange found another front than its last look
 /// before. Where there is no entry, no event is handed out, and no part changes.
 ///
-/// It takes the turns of parts that the call reaches, and of no others.
+/// It takes the turns of parts that the call reaches, and of no others. What stands in `places` before it means nothing; afterwards
+/// the places of the turns that it took stand there.
 pub fn attempt(
     book: &TurnBook<RunningBoard>,
     pen: &mut Pen<RunningBoard>,
     shape: &Shape,
+    places: &mut Places,
     room: &mut Workroom,
     caller: Caller,
     call: &Call,
@@ -118,8 +127,8 @@ pub fn attempt(
     ensures in_hand { AreAt [] room.new.rig.parts }
     ensures noted { AreNoted (view_of pen.new.seat).notes room.new.rig.known.places.items }
 {
-    let mut places = Places::new();
-    let answer = until_answered(book, pen, shape, &mut places, room, caller, call, events);
+    places.clear();
+    let answer = until_answered(book, pen, shape, places, room, caller, call, events);
     book.give_all(pen, places.as_slice());
     room.begin(places.as_slice());
     answer

@@ -122,7 +122,7 @@ fn read_word(
 }
 
 // The turn of a part is tried once; where it is won, another look is had. `Err` names the part whose turn was found taken.
-fn win_turn(
+pub(crate) fn win_turn(
     book: &TurnBook<RunningBoard>,
     pen: &mut Pen<RunningBoard>,
     shape: &Shape,
@@ -190,7 +190,7 @@ pub(crate) fn fetch(
     requires wants { IsWanted room.old.rig.known shape.now caller call.now (view_of pen.old.seat) places.old.items want }
     requires under { room.old.rig.known.looked ≡ had.generation }
     requires room { IsRoomFor shape.now room.old }
-    requires in_hand { AreAt places.old.items room.old.rig.parts }
+    requires bare { AreAt [] room.old.rig.parts }
     requires noted { AreNoted (view_of pen.old.seat).notes room.old.rig.known.places.items }
     ensures book { pen.new.seat.table_id ≡ pen.old.seat.table_id }
     ensures home { AreHome (view_of pen.new.seat).held (slots_of pen.new.seat) }
@@ -205,7 +205,7 @@ pub(crate) fn fetch(
     ensures busy { IfErr result (λ part. (u : Seen) → IsUnderWay shape.now caller call.now u (view_of pen.old.seat) had places.old.items
         → CameTo shape.now caller call.now u (view_of pen.new.seat) (Err (reasons.Busy part)) []) }
     ensures room { IsRoomFor shape.now room.new }
-    ensures in_hand { AreAt places.new.items room.new.rig.parts }
+    ensures bare { AreAt [] room.new.rig.parts }
     ensures noted { AreNoted (view_of pen.new.seat).notes room.new.rig.known.places.items }
 {
     match want {

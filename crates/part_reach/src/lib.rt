@@ -4,11 +4,16 @@
 //! is read, or the turn is tried once; and after another look it is run anew. What it answers is committed by one exchange of the
 //! front, and only then the copies are written into the slots.
 //!
-//! Reading order of the definitions: `Turns` (whose turns are taken), `Copies`, `Limits`, `Wants`, `Entered`,
+//! Where the table of reach names a part on every board, its turn is tried before the first look, and mostly one run is enough.
+//!
+//! Reading order of the definitions: `Turns` (whose turns are taken), `Sure`, `Beside`, `Copies`, `Limits`, `Wants`, `Entered`,
 //! `UnderWay` (what an attempt comes to).
 #![tactic(auto)]
 
 mod attempting;
+mod beginning;
+mod beside;
+mod by_table;
 mod copying;
 mod entering;
 mod fetching;

@@ -23,7 +23,7 @@ ghost use Rattle.part_attempt.specs.Attempts.{IsBarred, IsLost, IfEntered, IfBar
 ghost use Rattle.part_reach.specs.Entered.{IsMadeOn};
 ghost use Rattle.part_reach.specs.Wants.{IsAskedFor, IsWanted};
 
-use crate::copying::copy_afresh;
+use crate::copying::copy_parts;
 use crate::entering::enter;
 use crate::limits::barred;
 use crate::want::Want;
@@ -123,8 +123,8 @@ fn entered(
     }
 }
 
-/// One run of a call on fresh copies of the parts of these places, which are all that the pen holds: what comes of it, or what it
-/// wants.
+/// One run of a call on copies of the parts of these places, which are all that the pen holds: what comes of it, or what it wants.
+/// Nothing was in hand, and where it wants something nothing is afterwards.
 pub(crate) fn run(
     book: &TurnBook<RunningBoard>,
     pen: &mut Pen<RunningBoard>,
@@ -154,7 +154,7 @@ pub(crate) fn run(
     requires caller { (view_of pen.old.seat).caller ≡ Some (caller_number caller) }
     requires allowed { is_allowed caller call.now shape.now ≡ true }
     requires room { IsRoomFor shape.now room.old }
-    requires in_hand { AreAt places.now room.old.rig.parts }
+    requires bare { AreAt [] room.old.rig.parts }
     requires settled { room.old.rig.known.settled ≡ true }
     ensures book { pen.new.seat.table_id ≡ pen.old.seat.table_id }
     ensures home { AreHome (view_of pen.new.seat).held (slots_of pen.new.seat) }
@@ -178,10 +178,11 @@ pub(crate) fn run(
     ensures notes { (view_of pen.new.seat).notes ≡ (view_of pen.old.seat).notes }
     ensures room { IsRoomFor shape.now room.new }
     ensures in_hand { AreAt places.now room.new.rig.parts }
+    ensures bare { IfErr result (λ _. AreAt [] room.new.rig.parts) }
     ensures readings { SameReadings room.old.rig.known room.new.rig.known }
 {
     events.clear();
-    copy_afresh(book, pen, shape, places, room);
+    copy_parts(book, pen, shape, places, room);
     match barred(&room.rig.parts, shape, had, call) {
         Some(spent) => Ok(Ok(Err(spent))),
         None => {
@@ -189,6 +190,7 @@ pub(crate) fn run(
             match asked(room, shape, caller, call, events) {
                 Err(want) => {
                     events.clear();
+                    room.begin(places);
                     Err(want)
                 }
                 Ok(reply) => {

@@ -1,4 +1,4 @@
-use Rattle.std.specs.Prelude.{◌≡◌, true, IfSome}
+use Rattle.std.specs.Prelude.{◌≡◌, [], true, IfSome}
 use Rattle.board_step.specs.Publications.{words}
 use Rattle.turn_book.specs.Hands.{AreHome}
 use Rattle.turn_book.specs.Views.{view_of, slots_of}
@@ -20,7 +20,7 @@ invariant-runs l = record {
   under : l.room.rig.known.looked ≡ l.had.generation;
   settled : l.room.rig.known.settled ≡ true;
   room : IsRoomFor l.shape l.room;
-  in_hand : AreAt l.places.items l.room.rig.parts;
+  bare : AreAt [] l.room.rig.parts;
   noted : AreNoted (view_of l.pen.seat).notes l.room.rig.known.places.items;
 }
 

@@ -1,11 +1,6 @@
 use Rattle.std.proofs.Common.{◌≡◌, ◌+◌, ◌≤◌, ◌<◌, [], length, sym, ap, ◌∙◌, subst, arith}
 use Rattle.std.proofs.lemmas.List.{append-nil}
 use Rattle.std.proofs.lemmas.List.Elements.{All-nil}
-use Rattle.irq_base.specs.declared.shape.Part.{Part}
-use Rattle.board_raise.specs.declared.parts.Parts.{Parts}
-use Rattle.board_raise.specs.InHand.{parts_of}
-use Rattle.board_model.specs.Hand.{part_in}
-use Rattle.std.specs.Prelude.{is_some}
 use Rattle.turn_book.specs.Views.{view_of}
 use Rattle.part_slots.specs.Commits.{Seen}
 use Rattle.part_slots.specs.Slots.{place}
@@ -13,7 +8,7 @@ use Rattle.part_reach.specs.declared.want.Want.{Want}
 use Rattle.part_reach.specs.Turns.{IsReachedBetween}
 use Rattle.part_reach.specs.Wants.{IsWanted}
 use Rattle.part_reach.proofs.Places.{so_few}
-use Rattle.part_reach.proofs.Fetched.{reached_low, on_its_way, in_hand_after, read_fewer, won_fewer, won_way, found_busy}
+use Rattle.part_reach.proofs.Fetched.{reached_low, on_its_way, read_fewer, won_fewer, won_way, found_busy}
 use Rattle.part_reach.proofs.fetching.fetch.Goals as goal
 
 pub win_turn-requires-clause-there : goal.win_turn-requires-clause-there
@@ -65,8 +60,3 @@ returns-in-Turn-clause-busy c =
     let wants = subst (λ (w : Want). IsWanted c.args.room.now.rig.known c.args.shape.now c.args.caller c.args.call.now v ps w) c.in-Turn.is c.requires.wants in
     found_busy c.args.shape.now c.args.caller c.args.call.now v w c.args.had ps c.win_turn.new.places.items c.args.room.now.rig.known.places.items c.win_turn.new.room.rig.known.places.items c.requires.looked
     c.win_turn.result c.in-Turn.part wants.1 c.win_turn.ensures.other c.win_turn.ensures.list c.win_turn.ensures.place c.win_turn.ensures.turns
-
-pub returns-in-Turn-clause-in_hand : goal.returns-in-Turn-clause-in_hand
-returns-in-Turn-clause-in_hand c = λ p out.
-    ap (λ (q : Parts). is_some (part_in (parts_of q) p)) c.win_turn.ensures.parts
-    ∙ c.requires.in_hand p (in_hand_after c.win_turn.result c.args.places.now.items c.win_turn.new.places.items (place c.in-Turn.part) c.win_turn.ensures.won c.win_turn.ensures.stays (place p) out)
