@@ -20,6 +20,7 @@ use Rattle.part_slots.specs.Callers.{is_caller}
 use Rattle.part_board.specs.Facing.{placed_from, own_in}
 use Rattle.part_board.specs.Seen.{entries_by}
 use Rattle.part_board.proofs.Faces.{own_stays}
+use Rattle.live_runs.proofs.Passes.{callers_agree}
 
 -- ---- the places of a history
 
@@ -97,12 +98,6 @@ calls_are calls es rising same =
     ∙ filters_swap (λ (p : PlacedEntry). same_caller p.entry.caller c) at (placed_from 0 es))
     (placed_once at 0 es)))
     ∙ placed_list 0 es
-
-pub callers_agree : (c d : Caller) → is_caller c d ≡ same_caller c d
-callers_agree (Device c) (Device d) = refl
-callers_agree (Cpu c) (Cpu d) = refl
-callers_agree (Device c) (Cpu d) = refl
-callers_agree (Cpu c) (Device d) = refl
 
 pub own_is : (who : Caller) (es : List Entry) → own_in who es ≡ calls_by who (placed_from 0 es)
 own_is who es i = filter (λ (p : PlacedEntry). callers_agree p.entry.caller who i) (placed_from 0 es)

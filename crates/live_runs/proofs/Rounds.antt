@@ -1,20 +1,22 @@
 -- A note that goes along the passes twice.
-use Rattle.std.proofs.Common.{◌≡◌, ◌≤◌, false, List, [], ◌∷◌, ◌++◌, length, All, refl, sym, ap, ◌∙◌, subst, arith}
+use Rattle.std.proofs.Common.{◌≡◌, ◌≤◌, false, List, [], ◌∷◌, ◌++◌, append_assoc, length, All, Some, None, refl, sym, ap, ◌∙◌, subst, arith}
 use Rattle.std.proofs.lemmas.List.{append-nil}
 use Rattle.std.proofs.lemmas.List.Elements.{All-nil, All-cons, filter-append}
 use Rattle.irq_base.specs.declared.call.Caller.{Caller}
 use Rattle.irq_base.specs.declared.lists.Entry.{Entry}
 use Rattle.irq_base.specs.declared.shape.Shape.{Shape}
 use Rattle.board_step.specs.History.{opening, Legal}
+use Rattle.std.specs.declared.option.Option.{Option}
 use Rattle.turn_book.specs.Histories.{IsPrefix}
 use Rattle.turn_book.proofs.Lists.{prefix-nil, prefix-trans, prefix-length, prefix-whole}
 use Rattle.part_slots.specs.Callers.{is_caller}
 use Rattle.part_board.specs.Closing.{IsPassedOn}
 use Rattle.part_board.specs.declared.desk.Desk.{Desk}
+use Rattle.part_board.specs.declared.note.Note.{Note}
 use Rattle.part_board.specs.declared.pass.Pass.{Pass}
-use Rattle.part_board.specs.Seen.{pass_seen, has_made, entries_by, Learnt}
+use Rattle.part_board.specs.Seen.{pass_seen, note_seen, desk_seen, has_made, entries_by, Learnt}
 use Rattle.live_runs.specs.Made.{callers_of, seen_by_first, HasLearnt}
-use Rattle.live_runs.specs.Telling.{GoesAlong, AllKnow}
+use Rattle.live_runs.specs.Telling.{told_by, GoesAlong, AllKnow}
 
 -- ---- entries of one caller, in lists of which one begins with another
 
@@ -30,7 +32,32 @@ between c xs ys zs first second same =
 none_before : (c : Caller) (xs ys : List Entry) → IsPrefix xs ys → entries_by c ys ≡ [] → entries_by c xs ≡ []
 none_before c xs ys first none = between c [] xs ys (xs, refl) first none
 
+-- what a note told the desk has no entry of a caller whose pass the desk has not made
+pub none_told : (o : Option Note) (note : Note) (desk : Desk) → o ≡ Some note → IsPrefix (note_seen note) (desk_seen desk) → ((c : Caller) → has_made desk c ≡ false → entries_by c (desk_seen desk) ≡ [])
+    → (c : Caller) → has_made desk c ≡ false → entries_by c (told_by o) ≡ []
+none_told o note desk is begins others c never = ap (λ p. entries_by c (told_by p)) is ∙ none_before c (note_seen note) (desk_seen desk) begins (others c never)
+
+pub nothing_told : (o : Option Note) → o ≡ None → (c : Caller) → entries_by c (told_by o) ≡ []
+nothing_told o is c = ap (λ p. entries_by c (told_by p)) is
+
 -- ---- along the passes
+
+-- a note that goes along one more pass goes along all
+pub goes_on : (shape : Shape) (start : List Entry) (first after : List Entry) (all told : List Pass) (pass seen : Pass) (left rest more : List Pass) (last : List Entry)
+    → ((qs : List Pass) → GoesAlong shape first left qs last → GoesAlong shape start all (told ++ qs) last)
+    → left ≡ pass ∷ rest → seen.caller ≡ pass.caller → Learnt shape pass.caller (pass_seen pass) (pass_seen seen) → IsPrefix first (pass_seen seen) → after ≡ pass_seen seen
+    → GoesAlong shape after rest more last → GoesAlong shape start all ((told ++ seen ∷ []) ++ more) last
+goes_on shape start first after all told pass seen left rest more last step is caller learnt begins copy along =
+    subst (λ l. GoesAlong shape start all l last) (sym (append_assoc told (seen ∷ []) more))
+    (step (seen ∷ more) (subst (λ l. GoesAlong shape first l (seen ∷ more) last) (sym is) (caller, learnt, begins, subst (λ k. GoesAlong shape k rest more last) copy along)))
+
+-- two looks, of which the second teaches no less
+pub learnt_twice : (shape : Shape) (c d : Caller) (xs ys zs : List Entry) → d ≡ c → Learnt shape c xs ys → Learnt shape d ys zs → Learnt shape c xs zs
+learnt_twice shape c d xs ys zs is one two = record {
+  seen = prefix-trans xs ys zs one.seen two.seen;
+  legal = two.legal;
+  own = ap (λ e. entries_by e zs) (sym is) ∙ two.own ∙ ap (λ e. entries_by e ys) is ∙ one.own;
+}
 
 pub to_last : (shape : Shape) (first : List Entry) (ps qs : List Pass) (last : List Entry) → GoesAlong shape first ps qs last → IsPrefix first last
 to_last shape first [] [] last is = ([], append-nil first ∙ sym is)

@@ -26,33 +26,26 @@ use Rattle.board_laws.proofs.Points.{split}
 use Rattle.script_histories.specs.Merging.{AreBarred, EndsWell}
 use Rattle.replaying.proofs.Barred.{stays_barred, stays_reached}
 use Rattle.actors.specs.Runs.{calls_by}
-use Rattle.turn_book.specs.Histories.{IsPrefix}
+use Rattle.turn_book.specs.Histories.{IsPrefix, is_in}
 use Rattle.turn_book.proofs.Lists.{all_two}
-use Rattle.part_slots.specs.Callers.{is_caller}
+use Rattle.part_slots.specs.Callers.{caller_number, is_caller}
 use Rattle.part_board.specs.Closing.{has_pass, IsPassedOn}
 use Rattle.part_board.specs.Facing.{placed_from, own_in, board_seen}
 use Rattle.part_board.specs.declared.desk.Desk.{Desk}
 use Rattle.part_board.specs.declared.pass.Pass.{Pass}
-use Rattle.part_board.specs.Seen.{pass_seen, has_made, entries_by}
+use Rattle.part_board.specs.Seen.{pass_seen, desk_view, has_made, entries_by}
 use Rattle.part_board.proofs.Faces.{own_stays}
-use Rattle.live_runs.specs.Made.{callers_of, seen_by_first}
+use Rattle.live_runs.specs.Made.{callers_of, seen_by_first, HasLearnt, HasMadeJust}
 use Rattle.live_runs.specs.Ran.{HasOwn, IsStopped, FirstStop, HaveRunBy}
 use Rattle.live_runs.specs.Running.{WasBarred, ByNext, FirstBarred, IsRun}
 use Rattle.live_runs.specs.Telling.{AllKnow}
-use Rattle.live_runs.proofs.Places.{calls_are, own_is, own_none, silent_none, callers_agree}
+use Rattle.live_runs.proofs.Passes.{callers_agree, same_passes}
+use Rattle.live_runs.proofs.Places.{calls_are, own_is, own_none, silent_none}
 
 none_some : {A : Type 0} (o : Option A) (x : A) → o ≡ None → o ≡ Some x → ⊥
 none_some o x none some = cc
 
 -- ---- callers of passes
-
--- whether a caller has a pass is told by the callers
-has_by_callers : (passes : List Pass) (c : Caller) → has_pass passes c ≡ list_any (λ (d : Caller). is_caller d c) (callers_of passes)
-has_by_callers [] c = refl
-has_by_callers (p ∷ passes) c = ap (λ t. is_caller p.caller c || t) (has_by_callers passes c)
-
-pub same_passes : (passes others : List Pass) → callers_of passes ≡ callers_of others → (c : Caller) → has_pass passes c ≡ has_pass others c
-same_passes passes others same c = has_by_callers passes c ∙ ap (list_any (λ (d : Caller). is_caller d c)) same ∙ sym (has_by_callers others c)
 
 module _ (Q : Caller → Type 0) where
   -- what holds of the caller of each pass, holds of each caller that has one
@@ -166,7 +159,7 @@ module _ (s : Script) (shape : Shape) (desk : Desk) (before now : List Pass) (hi
             ∙ sym (sym (own_is c list) ∙ own_none c list (know.others c (made c ∙ lacks)))
       ]
 
-  pub history_is : history ≡ list
+  history_is : history ≡ list
   history_is = ran.listed ∙ calls_are ran.calls list ran.rising all_same
 
   legal : Legal s.shape history
@@ -205,10 +198,23 @@ module _ (s : Script) (shape : Shape) (desk : Desk) (before now : List Pass) (hi
   reached None is = subst (λ o. is_reached (board_after (opening s.shape) history) o ≡ true) (sym is) refl
   reached (Some x) is = (let was = (stopped_at x is).2 in still_reached s.shape was.point history was.within legal spent was.reached)
 
-  pub is_run : LegalHistoriesKeepTheLaws → IsRun s history spent
+  is_run : LegalHistoriesKeepTheLaws → IsRun s history spent
   is_run laws = record {
     fits = record { board = legal.0; stand = record { merge = ran.merge; legal = legal.1 }; ends = well spent refl };
     laws = laws s.shape history legal;
     first = first;
     reached = reached spent refl;
   }
+
+  pub all_of_it : LegalHistoriesKeepTheLaws → IsRun s history spent × (history ≡ list) × All (HasLearnt history) now × HasMadeJust desk now
+  all_of_it laws = (
+    is_run laws,
+    history_is,
+    subst (λ l. All (HasLearnt l) now) (sym history_is) know.learnt,
+    λ c. made c ∙ same_passes before now (sym know.callers) c,
+  )
+
+-- the desk that made the passes before the actors ran has made just those that came back
+pub made_these : (first desk : Desk) (made before : List Pass) → (desk_view desk).made ≡ (desk_view first).made → HasMadeJust first made → callers_of made ≡ callers_of before
+    → (c : Caller) → has_made desk c ≡ has_pass before c
+made_these first desk made before same just callers c = ap (is_in (caller_number c)) same ∙ just c ∙ same_passes made before callers c

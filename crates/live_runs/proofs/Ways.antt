@@ -1,6 +1,7 @@
 -- From what faces tell of their actors to what is known of their passes.
-use Rattle.std.proofs.Common.{◌≡◌, ℕ, ◌<◌, Bool, true, false, nat_eq, if◌then◌else◌, List, [], ◌∷◌, ◌++◌, map, All, is_some, Some, None, refl, sym, ap, ◌∙◌, subst, arith}
+use Rattle.std.proofs.Common.{◌≡◌, ℕ, ◌<◌, Bool, true, false, nat_eq, if◌then◌else◌, List, [], ◌∷◌, ◌++◌, append_assoc, map, All, is_some, Some, None, refl, sym, ap, ◌∙◌, subst, arith}
 use Rattle.std.proofs.lemmas.Bool.Decides.{nat_tests}
+use Rattle.std.proofs.lemmas.List.{map-append}
 use Rattle.std.proofs.lemmas.List.Elements.{All-nil, All-cons, All-head, All-tail}
 use Rattle.std.specs.declared.option.Option.{Option}
 use Rattle.irq_base.specs.Faces.{PlacedEntry, WhereTold}
@@ -35,6 +36,16 @@ none_some o x none some = cc
 told_of : {A : Type 0} (o p : Option A) (x y : A) (P : A → A → Type 0) → o ≡ Some x → p ≡ Some y → WhereTold o p P → P x y
 told_of o p x y P is too told = subst (λ q. WhereTold (Some x) q P) too (subst (λ q. WhereTold q p P) is told)
 
+-- one more that is pushed, where the next of those that are left is mapped from it
+pub moved : {A B : Type 0} (f : A → B) (xs now : List A) (x : A) (y : B) (left rest all : List B) → now ≡ xs ++ x ∷ [] → f x ≡ y → left ≡ y ∷ rest → map f xs ++ left ≡ all → map f now ++ rest ≡ all
+moved f xs now x y left rest all is same next whole =
+    ap (λ l. map f l ++ rest) is ∙ ap (λ l. l ++ rest) (map-append f xs (x ∷ [])) ∙ append_assoc (map f xs) (f x ∷ []) rest ∙ ap (λ z. map f xs ++ z ∷ rest) same
+    ∙ ap (λ l. map f xs ++ l) (sym next) ∙ whole
+
+pub callers_mapped : {A : Type 0} (pass_of : A → Pass) (xs : List A) → map (λ x. (pass_of x).caller) xs ≡ callers_of (map pass_of xs)
+callers_mapped pass_of [] = refl
+callers_mapped pass_of (x ∷ xs) = ap (λ l. (pass_of x).caller ∷ l) (callers_mapped pass_of xs)
+
 pub all_mapped : {A B : Type 0} (f : A → B) (P : B → Type 0) (xs : List A) → All P (map f xs) → All (λ x. P (f x)) xs
 all_mapped f P [] all = λ k d low. absurd (omega (arith, low))
 all_mapped f P (x ∷ xs) all = All-cons (λ y. P (f y)) x xs (All-head P (f x) (map f xs) all) (all_mapped f P xs (All-tail P (f x) (map f xs) all))
@@ -49,10 +60,6 @@ module _ {F : Type 0} (face : Ghosts F) (s : Script) (pass_of : F → Pass)
 
   abbrev ways : List F → List Pass
   ways fs = map pass_of fs
-
-  pub callers_are : (fs : List F) → map face.who fs ≡ callers_of (ways fs)
-  callers_are [] = refl
-  callers_are (f ∷ fs) = (λ i. who_is f i ∷ callers_are fs i)
 
   -- ---- of the board
 

@@ -24,8 +24,7 @@ fn faces_of<'a, R: Wait>(
     passes: Vec<Pass>,
 ) -> Result<Vec<OnLive<'a, R>>, NoMemory>
     requires passes { All (IsFresh board.now) passes.items }
-    ensures passes { IfOk result (λ faces. map (λ f. f.pass) faces.items ≡ passes.entry.items) }
-    ensures board { IfOk result (λ faces. All (λ f. f.board.now ≡ board.now) faces.items) }
+    ensures passes { IfOk result (λ faces. map (λ f. f.pass) faces.items ≡ passes.items) }
     ensures stops { IfOk result (λ faces. All (λ f. f.stops.count ≡ 0) faces.items) }
 {
     let mut faces = Vec::new(alloc);
