@@ -215,6 +215,6 @@ module _ (s : Script) (shape : Shape) (desk : Desk) (before now : List Pass) (hi
   )
 
 -- the desk that made the passes before the actors ran has made just those that came back
-pub made_these : (first desk : Desk) (made before : List Pass) → (desk_view desk).made ≡ (desk_view first).made → HasMadeJust first made → callers_of made ≡ callers_of before
+pub made_these : (start desk : Desk) (made before : List Pass) → (desk_view desk).made ≡ (desk_view start).made → HasMadeJust start made → callers_of made ≡ callers_of before
     → (c : Caller) → has_made desk c ≡ has_pass before c
-made_these first desk made before same just callers c = ap (is_in (caller_number c)) same ∙ just c ∙ same_passes made before callers c
+made_these start desk made before same just callers c = ap (is_in (caller_number c)) same ∙ just c ∙ same_passes made before callers c
