@@ -21,7 +21,14 @@ end
 fn actors_run_at_the_same_time(rt: HostRuntime) {
     let gate = Meeting::new();
     let ran = ran(&rt, rt.alloc(), MEETING, &gate);
-    assert!(rt; ran == Some(Ran { entries: 5, closed: Some(5), spent: None, legal: true }));
+    assert!(rt;
+        ran == Some(Ran {
+            entries: 5,
+            closed: Some(5),
+            spent: None,
+            legal: true
+        })
+    );
     assert!(rt; gate.notes() == 0);
 }
 
@@ -41,12 +48,26 @@ end
 fn a_limit_stops_a_run(rt: HostRuntime) {
     let ran = ran(&rt, rt.alloc(), LIMITED, &OpenGate);
     let spent = Some(Spent::Calls { at: 3 });
-    assert!(rt; ran == Some(Ran { entries: 3, closed: Some(3), spent, legal: true }));
+    assert!(rt;
+        ran == Some(Ran {
+            entries: 3,
+            closed: Some(3),
+            spent,
+            legal: true
+        })
+    );
 }
 
 // Without an actor there is nothing to run.
 #[test]
 fn no_actor_runs(rt: HostRuntime) {
     let ran = ran(&rt, rt.alloc(), "irqboard 1\ncpus 1\nend\n", &OpenGate);
-    assert!(rt; ran == Some(Ran { entries: 0, closed: Some(0), spent: None, legal: true }));
+    assert!(rt;
+        ran == Some(Ran {
+            entries: 0,
+            closed: Some(0),
+            spent: None,
+            legal: true
+        })
+    );
 }

@@ -1,12 +1,11 @@
 -- Calls in the order of their places are the history whose entries they are, caller by caller.
-use Rattle.std.proofs.Common.{◌≡◌, ℕ, ◌+◌, ◌<◌, ◌≤◌, Bool, true, false, nat_eq, cond, List, [], ◌∷◌, ◌++◌, filter, length, None, Some, refl, sym, ap, ◌∙◌, subst, arith}
+use Rattle.std.proofs.Common.{◌≡◌, ℕ, ◌+◌, ◌<◌, ◌≤◌, Bool, true, false, nat_eq, cond, List, [], ◌∷◌, ◌++◌, filter, length, None, Some, refl, sym, ap, ◌∙◌, arith}
 use Rattle.std.proofs.lemmas.Bool.Decides.{nat_tests}
 use Rattle.std.specs.List.Sorted.{IsNonDecreasingBy}
 use Rattle.std.specs.declared.option.Option.{Option}
 use Rattle.irq_base.specs.Faces.{PlacedEntry}
 use Rattle.irq_base.specs.declared.call.Call.{Call}
 use Rattle.irq_base.specs.declared.call.Caller.{Caller}
-use Rattle.irq_base.specs.declared.call.Caller.TheVariants.{Device, Cpu}
 use Rattle.irq_base.specs.declared.lists.Entry.{Entry}
 use Rattle.script_text.specs.Asks.{same_caller}
 use Rattle.script_text.specs.Scripts.{Script}
@@ -15,8 +14,6 @@ use Rattle.script_merging.proofs.Callers.{caller_itself, callers_same}
 use Rattle.actors.specs.Runs.{at_place, calls_by}
 use Rattle.actors.specs.Turns.{entries_in}
 use Rattle.actors.proofs.Orders.{RiseFrom, rise_lower, rise_of, ordered_one, filters_swap}
-use Rattle.turn_book.specs.Histories.{IsPrefix}
-use Rattle.part_slots.specs.Callers.{is_caller}
 use Rattle.part_board.specs.Facing.{placed_from, own_in}
 use Rattle.part_board.specs.Seen.{entries_by}
 use Rattle.part_board.proofs.Faces.{own_stays}

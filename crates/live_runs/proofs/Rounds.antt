@@ -1,11 +1,11 @@
 -- A note that goes along the passes twice.
-use Rattle.std.proofs.Common.{◌≡◌, ◌≤◌, false, List, [], ◌∷◌, ◌++◌, append_assoc, length, All, Some, None, refl, sym, ap, ◌∙◌, subst, arith}
+use Rattle.std.proofs.Common.{◌≡◌, false, List, [], ◌∷◌, ◌++◌, append_assoc, length, All, Some, None, refl, sym, ap, ◌∙◌, subst, arith}
 use Rattle.std.proofs.lemmas.List.{append-nil}
 use Rattle.std.proofs.lemmas.List.Elements.{All-nil, All-cons, filter-append}
 use Rattle.irq_base.specs.declared.call.Caller.{Caller}
 use Rattle.irq_base.specs.declared.lists.Entry.{Entry}
 use Rattle.irq_base.specs.declared.shape.Shape.{Shape}
-use Rattle.board_step.specs.History.{opening, Legal}
+use Rattle.board_step.specs.History.{opening}
 use Rattle.std.specs.declared.option.Option.{Option}
 use Rattle.turn_book.specs.Histories.{IsPrefix}
 use Rattle.turn_book.proofs.Lists.{prefix-nil, prefix-trans, prefix-length, prefix-whole}
@@ -15,7 +15,7 @@ use Rattle.part_board.specs.declared.desk.Desk.{Desk}
 use Rattle.part_board.specs.declared.note.Note.{Note}
 use Rattle.part_board.specs.declared.pass.Pass.{Pass}
 use Rattle.part_board.specs.Seen.{pass_seen, note_seen, desk_seen, has_made, entries_by, Learnt}
-use Rattle.live_runs.specs.Made.{callers_of, seen_by_first, HasLearnt}
+use Rattle.live_runs.specs.Made.{callers_of, HasLearnt}
 use Rattle.live_runs.specs.Telling.{told_by, GoesAlong, AllKnow}
 
 -- ---- entries of one caller, in lists of which one begins with another

@@ -1,10 +1,7 @@
 -- The passes learn of each other after their actors ran: the history is what the first has seen, and a run of the script.
-use Rattle.std.proofs.Common.{◌≡◌, ℕ, zero, suc, ◌<◌, ◌⊎◌, inl, inr, Bool, true, false, ◌||◌, List, [], ◌∷◌, ◌++◌, length, map, All, is_some, Some, None, slice_index_or, refl, sym, ap, ◌∙◌, subst, arith}
-use Rattle.std.proofs.lemmas.Bool.Decides.{nat_tests}
+use Rattle.std.proofs.Common.{◌≡◌, ℕ, zero, suc, ◌<◌, ◌⊎◌, inl, inr, Bool, true, false, ◌||◌, List, [], ◌∷◌, length, All, is_some, Some, None, slice_index_or, refl, sym, ap, ◌∙◌, subst, arith}
 use Rattle.std.proofs.lemmas.List.Elements.{All-head, All-tail}
-use Rattle.std.specs.List.{list_any}
 use Rattle.std.specs.declared.option.Option.{Option}
-use Rattle.irq_base.specs.Faces.{PlacedEntry}
 use Rattle.irq_base.specs.declared.call.Call.{Call}
 use Rattle.irq_base.specs.declared.call.Caller.{Caller}
 use Rattle.irq_base.specs.declared.call.Caller.TheVariants.{Device}
@@ -13,7 +10,7 @@ use Rattle.irq_base.specs.declared.reply.Spent.{Spent}
 use Rattle.irq_base.specs.declared.shape.Shape.{Shape}
 use Rattle.script_text.specs.Asks.{actors_of}
 use Rattle.script_text.specs.Scripts.{Script}
-use Rattle.script_merging.specs.Merging.{next_of, Merges, IsWhole}
+use Rattle.script_merging.specs.Merging.{next_of, Merges}
 use Rattle.script_merging.proofs.Actors.{of-actors}
 use Rattle.script_merging.proofs.Callers.{callers_same}
 use Rattle.board_model.specs.Board.{Board}
@@ -23,17 +20,17 @@ use Rattle.board_step.specs.Step.{spent_of}
 use Rattle.board_step.proofs.Following.{board_after_is_reached}
 use Rattle.board_laws.specs.Lawful.{LegalHistoriesKeepTheLaws}
 use Rattle.board_laws.proofs.Points.{split}
-use Rattle.script_histories.specs.Merging.{AreBarred, EndsWell}
+use Rattle.script_histories.specs.Merging.{EndsWell}
 use Rattle.replaying.proofs.Barred.{stays_barred, stays_reached}
 use Rattle.actors.specs.Runs.{calls_by}
 use Rattle.turn_book.specs.Histories.{IsPrefix, is_in}
 use Rattle.turn_book.proofs.Lists.{all_two}
 use Rattle.part_slots.specs.Callers.{caller_number, is_caller}
 use Rattle.part_board.specs.Closing.{has_pass, IsPassedOn}
-use Rattle.part_board.specs.Facing.{placed_from, own_in, board_seen}
+use Rattle.part_board.specs.Facing.{placed_from, board_seen}
 use Rattle.part_board.specs.declared.desk.Desk.{Desk}
 use Rattle.part_board.specs.declared.pass.Pass.{Pass}
-use Rattle.part_board.specs.Seen.{pass_seen, desk_view, has_made, entries_by}
+use Rattle.part_board.specs.Seen.{pass_seen, desk_view, has_made}
 use Rattle.part_board.proofs.Faces.{own_stays}
 use Rattle.live_runs.specs.Made.{callers_of, seen_by_first, HasLearnt, HasMadeJust}
 use Rattle.live_runs.specs.Ran.{HasOwn, IsStopped, FirstStop, HaveRunBy}
@@ -136,7 +133,6 @@ module _ (s : Script) (shape : Shape) (desk : Desk) (before now : List Pass) (hi
     (callers : callers_of before ≡ actors_of s.lines)
     (shapes : All (λ (p : Pass). p.shape ≡ s.shape) before)
     (made : (c : Caller) → has_made desk c ≡ has_pass before c) where
-
   abbrev list : List Entry
   list = seen_by_first now
 

@@ -1,12 +1,11 @@
 -- From what faces tell of their actors to what is known of their passes.
-use Rattle.std.proofs.Common.{◌≡◌, ℕ, ◌<◌, Bool, true, false, nat_eq, if◌then◌else◌, List, [], ◌∷◌, ◌++◌, append_assoc, map, All, is_some, Some, None, refl, sym, ap, ◌∙◌, subst, arith}
+use Rattle.std.proofs.Common.{◌≡◌, ◌<◌, Bool, true, false, nat_eq, if◌then◌else◌, List, [], ◌∷◌, ◌++◌, append_assoc, map, All, is_some, Some, None, refl, sym, ap, ◌∙◌, subst, arith}
 use Rattle.std.proofs.lemmas.Bool.Decides.{nat_tests}
 use Rattle.std.proofs.lemmas.List.{map-append}
 use Rattle.std.proofs.lemmas.List.Elements.{All-nil, All-cons, All-head, All-tail}
 use Rattle.std.specs.declared.option.Option.{Option}
 use Rattle.irq_base.specs.Faces.{PlacedEntry, WhereTold}
 use Rattle.irq_base.specs.declared.call.Call.{Call}
-use Rattle.irq_base.specs.declared.call.Caller.{Caller}
 use Rattle.irq_base.specs.declared.face.Face.{Ghosts}
 use Rattle.irq_base.specs.declared.lists.Entry.{Entry}
 use Rattle.irq_base.specs.declared.reply.Spent.{Spent}
@@ -16,7 +15,7 @@ use Rattle.board_step.specs.Applied.{is_reached}
 use Rattle.board_step.specs.Step.{spent_of}
 use Rattle.actors.specs.Turns.{HasRun}
 use Rattle.actors.specs.Runs.{calls_by, HaveRun, AreOwn, AreGathered, first_stop, IsBack, AreBack}
-use Rattle.part_board.specs.Facing.{home_of, home_of_pass, numbers_of, own_in, board_seen}
+use Rattle.part_board.specs.Facing.{home_of_pass, numbers_of, own_in, board_seen}
 use Rattle.part_board.specs.declared.live.LiveBoard.{LiveBoard}
 use Rattle.part_board.specs.declared.pass.Pass.{Pass}
 use Rattle.part_board.specs.Seen.{pass_seen, IsPassOf}
@@ -57,7 +56,6 @@ module _ {F : Type 0} (face : Ghosts F) (s : Script) (pass_of : F → Pass)
     (shape_is : (f : F) → face.shape f ≡ (pass_of f).shape)
     (bars : (f : F) (call : Call) → face.barred f call → is_some (spent_of (board_seen (pass_of f)) call) ≡ true)
     (limit : (f : F) → is_reached (board_seen (pass_of f)) (face.last f) ≡ true) where
-
   abbrev ways : List F → List Pass
   ways fs = map pass_of fs
 

@@ -38,10 +38,7 @@ fn faces_of<'a, R: Wait>(
 }
 
 // The passes of the faces, in their order.
-fn passes_again<R: Wait>(
-    alloc: Global,
-    faces: Vec<OnLive<'_, R>>,
-) -> Result<Vec<Pass>, NoMemory>
+fn passes_again<R: Wait>(alloc: Global, faces: Vec<OnLive<'_, R>>) -> Result<Vec<Pass>, NoMemory>
     ensures { IfOk result (λ passes. passes.items ≡ map (λ f. f.pass) faces.entry.items) }
 {
     let mut passes = Vec::new(alloc);

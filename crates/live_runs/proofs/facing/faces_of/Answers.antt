@@ -1,4 +1,4 @@
-use Rattle.std.proofs.Common.{◌≡◌, ◌++◌, ◌∷◌, [], All, length, sym, ap, subst, arith}
+use Rattle.std.proofs.Common.{◌≡◌, All, length, sym, ap, subst, arith}
 use Rattle.std.proofs.lemmas.List.Elements.{All-tail, All-push}
 use Rattle.std.specs.Vec.Iter.{into_iter_items}
 use Rattle.live_runs.specs.Made.{IsFresh}

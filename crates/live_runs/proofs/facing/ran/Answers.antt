@@ -1,8 +1,5 @@
-use Rattle.std.proofs.Common.{◌≡◌, All, map, Some, refl, sym, ap, ◌∙◌, subst}
-use Rattle.board_step.specs.History.{opening, board_after}
-use Rattle.script_text.specs.Asks.{actors_of}
-use Rattle.part_board.specs.Seen.{IsPassOf, pass_seen}
-use Rattle.part_board.specs.Facing.{home_of_pass}
+use Rattle.std.proofs.Common.{All, Some, refl, sym, ap, ◌∙◌, subst}
+use Rattle.part_board.specs.Seen.{IsPassOf}
 use Rattle.live_runs.specs.Made.{callers_of, IsFresh}
 use Rattle.live_runs.specs.Ran.{HaveRunBy}
 use Rattle.live_runs.proofs.Ways.{all_mapped, callers_mapped, callers_back, of_board_back, have_run}

@@ -1,7 +1,7 @@
-use Rattle.std.proofs.Common.{◌≡◌, ◌++◌, ◌+◌, ◌<◌, ◌∷◌, [], length, Err, sym, ap, ◌∙◌, subst, arith}
+use Rattle.std.proofs.Common.{◌+◌, ◌<◌, length, Err, sym, ap, ◌∙◌, subst, arith}
 use Rattle.std.proofs.lemmas.Bool.Decides.{nat_tests}
 use Rattle.irq_base.specs.Callers.{is_there}
-use Rattle.script_text.specs.Asks.{actors_of, caller_at}
+use Rattle.script_text.specs.Asks.{actors_of}
 use Rattle.live_runs.proofs.Passes.{actor_there, Made, one_more, not_taken}
 use Rattle.live_runs.proofs.making.passes_of.Goals as goal
 

@@ -1,4 +1,4 @@
-use Rattle.std.proofs.Common.{◌≡◌, sym, ◌∙◌}
+use Rattle.std.proofs.Common.{sym, ◌∙◌}
 use Rattle.live_runs.proofs.Together.{all_of_it, made_these}
 use Rattle.live_runs.proofs.running.run_by.Goals as goal
 

@@ -1,4 +1,4 @@
-use Rattle.std.proofs.Common.{◌≡◌, sym, subst}
+use Rattle.std.proofs.Common.{sym, subst}
 use Rattle.turn_book.specs.Histories.{IsPrefix}
 use Rattle.turn_book.proofs.Lists.{prefix-trans}
 use Rattle.part_board.specs.Seen.{pass_seen, note_seen}
