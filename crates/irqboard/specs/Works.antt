@@ -39,8 +39,9 @@ pub record IsReplay (input : List ℕ) (spent : Option Limit) (text : List ℕ) 
 -- ---- run
 
 -- the input is a script, and the text is the transcript of a run of its actors on some running board
-abbrev pub IsRunText : List ℕ → Option Limit → List ℕ → Type 0
-IsRunText input spent text = (live : Live) × IsLiveRun live input spent text
+pub record IsRunText (input : List ℕ) (spent : Option Limit) (text : List ℕ) : Type 0 where
+  pub live : Live
+  pub run : IsLiveRun live input spent text
 
 -- ---- check
 

@@ -3,6 +3,7 @@ ghost use Rattle.std.specs.Prelude.{◌≡◌, ◌≢◌};
 ghost use Rattle.io_edge.specs.Faults.{Rose};
 ghost use Rattle.irqboard.specs.Answers.{ReadsRightly, JudgesRightly, WritesRightly, KeepsSilent, IsGood, IsAnswered};
 ghost use Rattle.irqboard.specs.Benches.{LeavesRun};
+ghost use Rattle.irqboard.specs.declared.command.Command.{Command};
 
 use crate::bench::Bench;
 use crate::live_work::{LiveWork, live_work_of};

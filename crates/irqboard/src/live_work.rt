@@ -1,12 +1,12 @@
 //! The work of `run` on an input that was read: its script on a running board of its own.
-ghost use Rattle.std.specs.Prelude.{◌≡◌, ◌≤◌, length, IfOk, IfErr};
+ghost use Rattle.std.specs.Prelude.{◌≡◌, ◌≤◌, length, All, IfOk, IfErr};
 ghost use Rattle.script_text.specs.Fitting.{IsScript};
-ghost use Rattle.live_runs.specs.Running.{IsRun};
+ghost use Rattle.live_runs.specs.Running.{IsRun, AreOfActors, HasLearnt, HasMadeJust, seen_by_first};
 ghost use Rattle.irqboard.specs.Benches.{WorksLive};
 ghost use Rattle.irqboard.specs.Done.{HasFault};
-ghost use Rattle.irqboard.specs.Runs.{RanOn};
+ghost use Rattle.irqboard.specs.Works.{Works};
+ghost use Rattle.irqboard.specs.declared.command.Command.{Command};
 
-use crate::command::Command;
 use crate::live::Live;
 use crate::outcome::Outcome;
 use crate::reading::LIMIT;
@@ -47,7 +47,11 @@ fn run_actors<R: Threads + Wait + Sync, G: Gate>(
 ) -> Result<LiveRun, NoMemory>
     requires { IsScript script.now }
     ensures run { IfOk result (λ left. IsRun script.now left.history left.spent) }
-    ensures ran { IfOk result (λ left. RanOn left.live script.now left.history) }
+    ensures shape { IfOk result (λ left. left.live.board.shape ≡ script.now.shape) }
+    ensures passes { IfOk result (λ left. AreOfActors left.live.board script.now left.live.passes.items) }
+    ensures made { IfOk result (λ left. HasMadeJust left.live.desk left.live.passes.items) }
+    ensures seen { IfOk result (λ left. left.history ≡ seen_by_first left.live.passes.items) }
+    ensures told { IfOk result (λ left. All (HasLearnt left.history) left.live.passes.items) }
 {
     let (board, mut desk) = match LiveBoard::power_on(alloc, &script.shape()) {
         Ok(made) => made,
@@ -79,7 +83,8 @@ pub fn live_work_of<R: Threads + Wait + Sync, G: Gate>(
     gate: &G,
 ) -> Result<LiveWork, ScriptFault>
     requires { length input.now ≤ LIMIT }
-    ensures done { IfOk result (λ work. WorksLive work.live input.now work.outcome work.text) }
+    ensures done { IfOk result (λ work. Works Command.Run input.now work.outcome work.text) }
+    ensures live { IfOk result (λ work. WorksLive work.live input.now work.outcome work.text) }
     ensures fault { IfErr result (HasFault Command.Run input.now) }
 {
     let script = match parse(alloc, input) {
