@@ -7,7 +7,8 @@ use Rattle.irq_base.specs.declared.reply.Spent.{Spent as Limit}
 use Rattle.script_text.specs.Scripts.{Script, script_of}
 use Rattle.transcript.specs.Text.{text_of}
 use Rattle.replaying.specs.Replays.{run_of}
-use Rattle.live_runs.specs.Running.{IsRun, AreOfActors, HasLearnt, HasMadeJust, seen_by_first}
+use Rattle.live_runs.specs.Made.{AreOfActors, HasLearnt, HasMadeJust, seen_by_first}
+use Rattle.live_runs.specs.Running.{IsRun}
 use Rattle.irqboard.specs.declared.live.Live.{Live}
 
 -- A script ran on this running board. The board has the script's shape. Its passes are one an actor, in order, and no other pass of it

@@ -1,7 +1,8 @@
 //! The work of `run` on an input that was read: its script on a running board of its own.
 ghost use Rattle.std.specs.Prelude.{◌≡◌, ◌≤◌, length, All, IfOk, IfErr};
 ghost use Rattle.script_text.specs.Fitting.{IsScript};
-ghost use Rattle.live_runs.specs.Running.{IsRun, AreOfActors, HasLearnt, HasMadeJust, seen_by_first};
+ghost use Rattle.live_runs.specs.Made.{AreOfActors, HasLearnt, HasMadeJust, seen_by_first};
+ghost use Rattle.live_runs.specs.Running.{IsRun};
 ghost use Rattle.irqboard.specs.Benches.{WorksLive};
 ghost use Rattle.irqboard.specs.Done.{HasFault};
 ghost use Rattle.irqboard.specs.Works.{Works};
