@@ -1,3 +1,4 @@
+pub mod Crossing
 pub mod Passes
 pub mod Places
 pub mod Ways

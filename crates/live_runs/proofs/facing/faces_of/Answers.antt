@@ -1,9 +1,14 @@
 use Rattle.std.proofs.Common.{◌≡◌, All, length, sym, ap, subst, arith}
-use Rattle.std.proofs.lemmas.List.Elements.{All-tail, All-push}
+use Rattle.std.proofs.lemmas.List.Elements.{All-head, All-tail, All-push}
 use Rattle.std.specs.Vec.Iter.{into_iter_items}
 use Rattle.live_runs.specs.Made.{IsFresh}
 use Rattle.live_runs.proofs.Ways.{moved}
 use Rattle.live_runs.proofs.facing.faces_of.Goals as goal
+
+pub of-requires : goal.of-requires
+of-requires g c =
+    let board = c.args.board.now in
+    record { pass = (All-head (IsFresh board) c.in-Some.pass (into_iter_items c.next.new.self) (subst (All (IsFresh board)) c.in-Some.ensures.items c.loop-pass.invariant.2)).of_board }
 
 pub loop-pass-preserved : goal.loop-pass-preserved
 loop-pass-preserved g c =

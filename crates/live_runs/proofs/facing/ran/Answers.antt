@@ -1,3 +1,8 @@
+use denote.Param.Send.{sendable}
+use Rattle.std.proofs.Crossing.{crosses}
+use Rattle.irq_base.proofs.face.Stops.TheSendSync as stops
+use Rattle.part_board.proofs.live.LiveBoard.TheSendSync as live
+use Rattle.live_runs.proofs.Crossing.{pass_field, pass_send}
 use Rattle.std.proofs.Common.{All, Some, refl, sym, ap, ◌∙◌, subst}
 use Rattle.part_board.specs.Seen.{IsPassOf}
 use Rattle.live_runs.specs.Made.{callers_of, IsFresh}
@@ -8,6 +13,9 @@ use Rattle.live_runs.proofs.facing.ran.Goals as goal
 pub run_faces-requires-clause-callers : goal.run_faces-requires-clause-callers
 run_faces-requires-clause-callers g c κs within =
     callers_mapped (λ f. f.pass) c.in_ok-faces.faces.items ∙ ap callers_of c.in_ok-faces.ensures.passes ∙ c.requires.callers
+
+pub run_faces-requires-send-F : goal.run_faces-requires-send-F
+run_faces-requires-send-F g c κs within = (let shared = c.type_bounds.sync-R in search (sendable, crosses, pass_field, pass_send, live.the_sync, live.the_field_sync, stops.the_send, stops.the_field_send) depth 20)
 
 pub returns-clause-passes : goal.returns-clause-passes
 returns-clause-passes g c =
