@@ -2,7 +2,7 @@ pub mod Unwished
 mod Turns
 mod Loops
 mod Registrations
-mod Barred
+pub mod Barred
 mod Merged
 mod Ordered
 mod Lines
