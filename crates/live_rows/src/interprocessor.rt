@@ -104,10 +104,12 @@ fn take<R: Wait>(rt: &R, board: &LiveBoard, pass: &mut Pass) -> Option<u8>
     ensures pass { IsPassOf board.now pass.new }
 {
     let mut events = Events::new();
-    let Some(Done {
-        reply: Reply::Vector(vector),
-        ..
-    }) = done_by(rt, board, pass, &Call::Ack, &mut events)
+    let Some(
+        Done {
+            reply: Reply::Vector(vector),
+            ..
+        },
+    ) = done_by(rt, board, pass, &Call::Ack, &mut events)
     else {
         return None;
     };
@@ -171,11 +173,7 @@ fn enable_both<R: Wait>(rt: &R, board: &LiveBoard, passes: (Pass, Pass)) -> (Pas
 }
 
 // Both of two passes, one after the other.
-fn drain_both<R: Wait>(
-    rt: &R,
-    board: &LiveBoard,
-    passes: (Pass, Pass),
-) -> ((Pass, Pass), Counts)
+fn drain_both<R: Wait>(rt: &R, board: &LiveBoard, passes: (Pass, Pass)) -> ((Pass, Pass), Counts)
     requires passes { IsPassOf board.now passes.0 × IsPassOf board.now passes.1 }
     ensures passes { IsPassOf board.now result.0.0 × IsPassOf board.now result.0.1 }
 {
@@ -229,7 +227,7 @@ fn exchanged<R: Threads + Wait + Sync>(
 fn each_vector_is_taken_as_often_as_it_was_newly_delivered(
     rt: HostRuntime,
 ) -> Result<(), NoMemory> {
-    let (counts, length) = exchanged(&rt, rt.alloc(), 1000)?;
+    let (counts, length) = exchanged(&rt, rt.alloc(), 250)?;
     assert!(rt; counts.newly == counts.taken);
     for count in counts.newly.as_slice() {
         assert!(rt; *count > 0);

@@ -87,7 +87,12 @@ fn counted_at_close(board: LiveBoard, desk: Desk, passes: Vec<Pass>) -> Option<(
 
 // The same of a board that nobody called.
 fn untouched(alloc: Global) -> Result<Option<(u64, u64, u32)>, NoMemory> {
-    let (board, desk, first, second) = two_passes(alloc, &wide(), Caller::Device(3), Caller::Cpu(1))?;
+    let (board, desk, first, second) = two_passes(
+        alloc,
+        &wide(),
+        Caller::Device(3),
+        Caller::Cpu(1),
+    )?;
     match vec![in alloc; second, first] {
         Err(_) => Err(NoMemory),
         Ok(passes) => Ok(counted_at_close(board, desk, passes)),
@@ -132,7 +137,12 @@ type Answers = (Option<Targets>, Option<Done>, Option<(Caller, u64)>);
 // A device asks where a GSI goes and falls a tick; a processor learns of it; the board is closed without the processor, and then
 // with it.
 fn asked(alloc: Global) -> Result<Answers, NoMemory> {
-    let (board, desk, mut device, mut cpu) = two_passes(alloc, &narrow(), Caller::Device(0), Caller::Cpu(0))?;
+    let (board, desk, mut device, mut cpu) = two_passes(
+        alloc,
+        &narrow(),
+        Caller::Device(0),
+        Caller::Cpu(0),
+    )?;
     let mut events = Events::new();
     let targets = board.route_now(&mut device, 5).ok();
     let done = attempted(&board, &mut device, &Call::Tick, &mut events);
