@@ -90,7 +90,7 @@ pub fn ask_again<R: Wait>(
 {
     let mut met = 0u64;
     let mut events = Events::new();
-    for _n in 0..rounds {
+    for _ in 0..rounds {
         met = met.wrapping_add(round(rt, board, &mut pass, calls, &mut events));
     }
     met
@@ -108,7 +108,7 @@ pub fn ask_until<R: Wait>(
 {
     let mut met = 0u64;
     let mut events = Events::new();
-    for _n in 0..u64::MAX {
+    for _ in 0..u64::MAX {
         if stop.load(Ordering::SeqCst) {
             break;
         }
@@ -124,7 +124,7 @@ pub fn look_again(board: &LiveBoard, mut pass: Pass, rounds: u32) -> u64
     requires pass { IsPassOf board.now pass }
 {
     let mut answered = 0u64;
-    for _n in 0..rounds {
+    for _ in 0..rounds {
         if board.route_now(&mut pass, 16).is_ok() {
             answered = answered.wrapping_add(1);
         }

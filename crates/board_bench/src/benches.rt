@@ -158,7 +158,7 @@ pub fn run(alloc: Global, bench: Bench, rounds: u32) -> Result<u64, OpenError> {
     let round = bench.round();
     let calls = bench.calls();
     let mut given = 0u64;
-    for _n in 0..rounds {
+    for _ in 0..rounds {
         given = given.wrapping_add(vectors_of(&mut board, &round[..calls], &mut events));
     }
     Ok(given)

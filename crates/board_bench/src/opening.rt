@@ -72,7 +72,7 @@ pub fn passes_of(
 /// next is made.
 pub fn open_again(alloc: Global, passes: u16, rounds: u32) -> Result<u64, OpenError> {
     let mut made = 0u64;
-    for _n in 0..rounds {
+    for _ in 0..rounds {
         let (board, mut desk) = opened(alloc, 64)?;
         let _passes = passes_of(alloc, &board, &mut desk, passes.min(64))?;
         made = made.wrapping_add(1);
