@@ -7,7 +7,7 @@ use crate::benches::Bench;
 use crate::calls::{assign, deassign, default_table, enable, set_up};
 use crate::opening::{opened, pass_of, passes_of};
 use board_step::OpenError;
-use irq_base::{Call, Caller};
+use irq_base::Caller;
 use part_board::{LiveBoard, Pass};
 use std::alloc::Global;
 use std::sync::Wait;
@@ -93,20 +93,50 @@ fn rounds_of<R: Wait>(
     ask_again(rt, board, pass, &round[..calls], rounds)
 }
 
-// So many rounds of the bench by each of the passes, on a thread of its own; how many vectors they gave in all.
+// What the pass of a thread does: its rounds of the bench. Beside a rerouting thread, processor 0 does them and then stops the others,
+// which put the table of power-on in place until then. How many vectors its rounds gave.
+fn work<R: Wait>(
+    rt: &R,
+    alloc: Global,
+    board: &LiveBoard,
+    pass: Pass,
+    bench: Live,
+    rounds: u32,
+    stop: &AtomicBool,
+) -> u64
+    requires pass { IsPassOf board.now pass }
+{
+    match (bench, pass.caller()) {
+        (Live::Rounds(bench), _) => rounds_of(rt, alloc, board, pass, bench, rounds),
+        (_, Caller::Cpu(0)) => {
+            let given = rounds_of(rt, alloc, board, pass, Bench::Message, rounds);
+            stop.store(true, Ordering::SeqCst);
+            given
+        }
+        _ => {
+            if let Ok(call) = default_table(alloc) {
+                let _published = ask_until(rt, board, pass, &call, stop);
+            }
+            0
+        }
+    }
+}
+
+// The work of each of the passes, on a thread of its own; how many vectors all gave.
 fn on_threads<R: Threads + Wait + Sync>(
     rt: &R,
     alloc: Global,
     board: &LiveBoard,
     passes: Vec<Pass>,
-    bench: Bench,
+    bench: Live,
     rounds: u32,
 ) -> Result<u64, OpenError>
     requires passes { All (IsPassOf board.now) passes.items }
 {
+    let stop = AtomicBool::new(false);
     let act = |pass: Pass| -> u64
         requires { IsPassOf board.now pass }
-    { rounds_of(rt, alloc, board, pass, bench, rounds) };
+    { work(rt, alloc, board, pass, bench, rounds, &stop) };
     let Ok(given) = thread::map_vec(rt, passes, &act) else {
         return Err(OpenError::NoMemory);
     };
@@ -115,31 +145,6 @@ fn on_threads<R: Threads + Wait + Sync>(
         sum = sum.wrapping_add(*count);
     }
     Ok(sum)
-}
-
-// So many rounds of messages by the first pass, beside the call by the other pass, again and again; how many vectors they gave.
-fn beside<R: Threads + Wait + Sync>(
-    rt: &R,
-    alloc: Global,
-    board: &LiveBoard,
-    passes: (Pass, Pass),
-    call: &Call,
-    rounds: u32,
-) -> u64
-    requires passes { IsPassOf board.now passes.0 × IsPassOf board.now passes.1 }
-{
-    let (first, second) = passes;
-    let stop = AtomicBool::new(false);
-    let (given, _published) = thread::join(
-        rt,
-        || {
-            let given = rounds_of(rt, alloc, board, first, Bench::Message, rounds);
-            stop.store(true, Ordering::SeqCst);
-            given
-        },
-        || ask_until(rt, board, second, call, &stop),
-    );
-    given
 }
 
 /// Runs so many rounds on a running board of so many processors; how many did what they are for: vectors that were given, looks that
@@ -158,15 +163,9 @@ pub fn run<R: Threads + Wait + Sync>(
     };
     let (board, mut desk) = opened(alloc, cpus)?;
     match bench {
-        Live::Rounds(bench) => {
+        Live::Rounds(_) | Live::Beside => {
             let passes = passes_of(alloc, &board, &mut desk, cpus)?;
             on_threads(rt, alloc, &board, passes, bench, rounds)
-        }
-        Live::Beside => {
-            let first = pass_of(alloc, &board, &mut desk, 0)?;
-            let second = pass_of(alloc, &board, &mut desk, 1)?;
-            let call = default_table(alloc)?;
-            Ok(beside(rt, alloc, &board, (first, second), &call, rounds))
         }
         Live::Route => {
             let pass = pass_of(alloc, &board, &mut desk, 0)?;
