@@ -1,0 +1,5 @@
+use Rattle.part_board.specs.Seen.{IsPassOf}
+use Rattle.board_bench.proofs.asking.round.Given as goal
+
+abbrev pub invariant-loop-call : goal.invariant-loop-call
+invariant-loop-call g l = IsPassOf l.board l.pass
