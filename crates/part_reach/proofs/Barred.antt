@@ -1,5 +1,5 @@
 -- Which limit bars a call, told by the registry where that is in hand.
-use Rattle.std.proofs.Common.{◌≡◌, ℕ, Bool, true, false, true≢false, nat_eq, if◌then◌else◌, is_some, Some, None, refl, sym, ap, ◌∙◌, subst}
+use Rattle.std.proofs.Common.{◌≡◌, Bool, true, false, true≢false, nat_eq, if◌then◌else◌, is_some, Some, None, refl, sym, ap, ◌∙◌, subst}
 use Rattle.std.specs.Prelude.{◌&&◌, IfSome}
 use Rattle.std.specs.declared.option.Option.{Option}
 use Rattle.irq_base.specs.declared.call.Call.{Call}

@@ -1,6 +1,6 @@
 -- The first look of an attempt, behind the turn of a part that the call reaches on every board.
 use Rattle.std.proofs.Common.{◌≡◌, ℕ, ◌<◌, ◌+◌, true, List, [], ◌∷◌, ◌++◌, All, Some, refl, sym, ap, ◌∙◌, subst, append-nil}
-use Rattle.std.specs.Prelude.{IfOk, IfErr, Ok, Err}
+use Rattle.std.specs.Prelude.{IfOk, Ok, Err}
 use Rattle.std.specs.declared.result.Result.{Result}
 use Rattle.std.proofs.lemmas.List.Elements.{All-nil}
 use Rattle.irq_base.specs.Callers.{is_allowed}
@@ -23,7 +23,7 @@ use Rattle.part_reach.specs.Sure.{IsSure}
 use Rattle.part_reach.specs.Turns.{IsReachedAfter, IsReachedBetween}
 use Rattle.part_reach.specs.UnderWay.{HasLooked, IsUnderWay, LooksAgain, CameTo}
 use Rattle.part_reach.proofs.Ways.{same_place}
-use Rattle.part_reach.proofs.Fetched.{reached_low, one_reached, first_looked, first_way}
+use Rattle.part_reach.proofs.Fetched.{reached_low, one_reached, first_looked}
 
 module _ (shape : Shape) (caller : Caller) (call : Call) (part : Part) (sure : IsSure shape caller call part) where
   -- it is reached on the board that a list leaves

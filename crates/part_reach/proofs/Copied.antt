@@ -1,5 +1,5 @@
 -- Copies of the slots that a pen holds are the parts of the board that its list leaves.
-use Rattle.std.proofs.Common.{◌≡◌, ℕ, zero, suc, ◌+◌, ◌-◌, ◌<◌, Bool, true, false, true≢false, List, [], ◌∷◌, map, length, slice_get, slice_set, is_some, Some, None, nat_eq, refl, sym, ap, ◌∙◌, subst, arith, inl, inr}
+use Rattle.std.proofs.Common.{◌≡◌, ℕ, zero, suc, ◌-◌, ◌<◌, Bool, true, false, true≢false, List, [], ◌∷◌, map, length, slice_get, slice_set, is_some, Some, None, nat_eq, refl, sym, ap, ◌∙◌, subst, arith, inl, inr}
 use Rattle.std.proofs.lemmas.Bool.Decides.{eqb_tells, nat_tests}
 use Rattle.std.specs.Prelude.{IfSome, option_map}
 use Rattle.std.specs.declared.option.Option.{Option}
@@ -15,7 +15,7 @@ use Rattle.board_model.proofs.Lens.{in_other, same_is}
 use Rattle.board_raise.specs.declared.parts.Parts.{Parts}
 use Rattle.board_raise.specs.declared.parts.PicPart.{PicPart}
 use Rattle.board_raise.specs.declared.parts.IoPart.{IoPart}
-use Rattle.board_raise.specs.Fit.{PairFits, IoapicFits, PinsFit}
+use Rattle.board_raise.specs.Fit.{PairFits, IoapicFits}
 use Rattle.board_raise.specs.InHand.{pic_of, ioapic_of, parts_of, chips_of}
 use Rattle.turn_book.specs.declared.view.Held.{Held}
 use Rattle.turn_book.specs.Hands.{held_at}

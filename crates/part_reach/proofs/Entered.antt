@@ -1,17 +1,16 @@
 -- The entry of a call that was made on copies of the parts in hand.
-use Rattle.std.proofs.Common.{◌≡◌, ℕ, ◌<◌, ◌≤◌, Bool, true, false, true≢false, List, length, slice_get, is_some, Some, None, refl, sym, ap, ◌∙◌, subst}
+use Rattle.std.proofs.Common.{◌≡◌, ℕ, ◌<◌, ◌≤◌, Bool, true, false, true≢false, List, slice_get, is_some, Some, None, refl, sym, ap, ◌∙◌, subst}
 use Rattle.std.specs.Prelude.{IfSome, option_map}
 use Rattle.std.specs.declared.option.Option.{Option}
 use Rattle.irq_base.specs.declared.lists.Entry.{Entry}
 use Rattle.irq_base.specs.declared.shape.Shape.{Shape}
 use Rattle.irq_base.specs.declared.shape.Part.TheVariants.{Registry}
 use Rattle.board_model.specs.Board.{Board}
-use Rattle.board_model.specs.Hand.{part_in}
 use Rattle.board_model.specs.Published.{published, IsSoundRegistry}
 use Rattle.board_model.specs.Registry.{RegistryPart as Kept}
 use Rattle.board_raise.specs.declared.parts.Parts.{Parts}
 use Rattle.board_raise.specs.declared.parts.RegistryPart.{RegistryPart}
-use Rattle.board_raise.specs.InHand.{registry_of, parts_of}
+use Rattle.board_raise.specs.InHand.{registry_of}
 use Rattle.board_step.specs.History.{opening}
 use Rattle.board_step.specs.Publications.{words, KeepsTheFrame}
 use Rattle.board_step.specs.Sound.{IsSound}
@@ -20,7 +19,7 @@ use Rattle.board_step.proofs.Publishing.{steps_keep_the_frame, steps_show_public
 use Rattle.board_step.proofs.SoundSteps.{steps_keep_sound}
 use Rattle.turn_book.specs.declared.view.Draft.{Draft}
 use Rattle.turn_book.specs.declared.view.Front.{Front}
-use Rattle.turn_book.specs.Banks.{AreDrafted, HasRegistry}
+use Rattle.turn_book.specs.Banks.{AreDrafted}
 use Rattle.turn_book.specs.Hands.{held_at}
 use Rattle.turn_book.specs.Histories.{is_in}
 use Rattle.turn_book.specs.Many.{HoldsJust}
@@ -35,11 +34,10 @@ use Rattle.part_slots.specs.Slots.{slots_of}
 use Rattle.part_slots.proofs.Running.{one_step}
 use Rattle.part_copies.specs.Copied.{written_by, FitsOver}
 use Rattle.part_rig.specs.declared.workroom.Workroom.{Workroom}
-use Rattle.part_rig.specs.Rooms.{written_from, FitsFrom}
+use Rattle.part_rig.specs.Rooms.{written_from}
 use Rattle.part_attempt.specs.Attempts.{NamesInRange, words_in_hand}
 use Rattle.part_attempt.proofs.Standing.{some_is, stands, right_is}
 use Rattle.part_reach.specs.Entered.{IsMadeOn}
-use Rattle.part_reach.proofs.Copied.{not_both}
 use Rattle.part_reach.proofs.Home.{written_home, fits_home}
 
 module _ (shape : Shape) (v : Seen) (begins : v.begin ≡ Some (opening shape)) (legal : IsLegal Opens IsStep v) (e : Entry) (places : List ℕ) (q : Parts) (made : IsMadeOn v e places q) where

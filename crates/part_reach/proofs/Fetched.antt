@@ -1,5 +1,5 @@
 -- What is wanted was read, or its turn was won, and the front was looked at again.
-use Rattle.std.proofs.Common.{◌≡◌, Bool, false, true≢false, nat_eq, ◌||◌, ℕ, zero, suc, ◌+◌, ◌-◌, ◌*◌, ◌^◌, ◌<◌, ◌≤◌, List, [], ◌∷◌, ◌++◌, length, All, is_some, true, Some, refl, sym, ap, ◌∙◌, subst, arith, cond, append_assoc, append-nil, inl, inr}
+use Rattle.std.proofs.Common.{◌≡◌, ℕ, ◌+◌, ◌-◌, ◌*◌, ◌^◌, ◌<◌, ◌≤◌, List, [], ◌∷◌, ◌++◌, length, All, is_some, true, Some, refl, sym, ap, ◌∙◌, subst, arith, cond, append_assoc, append-nil, inl, inr}
 use Rattle.std.specs.Prelude.{count_by, IfOk, IfErr, Ok, Err}
 use Rattle.std.specs.declared.option.Option.{Option}
 use Rattle.std.specs.declared.result.Result.{Result}
@@ -14,27 +14,26 @@ use Rattle.irq_base.specs.declared.lists.Entry.{Entry}
 use Rattle.irq_base.specs.declared.shape.Part.{Part}
 use Rattle.irq_base.specs.declared.shape.Part.TheVariants.{Registry, Counters, Tick, Pic, Ioapic, Lapic}
 use Rattle.irq_base.specs.declared.shape.Shape.{Shape}
-use Rattle.board_step.specs.History.{opening, Leads}
+use Rattle.board_step.specs.History.{opening}
 use Rattle.board_step.specs.Step.{is_publication}
 use Rattle.board_step.proofs.Publishing.{legal_histories_count}
 use Rattle.board_step.proofs.There.{reach_is_there}
 use Rattle.turn_book.specs.declared.view.Front.{Front}
 use Rattle.turn_book.specs.Hands.{held_at}
-use Rattle.turn_book.specs.Histories.{IsPrefix, entries_of, is_in}
-use Rattle.turn_book.specs.Views.{IsLegal, AddsNoneOfOwn, SamePlace, SameList}
+use Rattle.turn_book.specs.Histories.{IsPrefix, entries_of}
+use Rattle.turn_book.specs.Views.{IsLegal, SamePlace, SameList}
 use Rattle.turn_book.proofs.Lists.{prefix-trans}
 use Rattle.part_slots.specs.Callers.{caller_number}
 use Rattle.part_slots.specs.Commits.{Seen}
 use Rattle.part_slots.specs.Running.{Opens, IsStep, caller_of}
-use Rattle.part_slots.specs.Slots.{place, part_at}
-use Rattle.part_slots.proofs.Inverse.{part_back, five_more}
+use Rattle.part_slots.specs.Slots.{place}
+use Rattle.part_slots.proofs.Inverse.{part_back}
 use Rattle.part_rig.specs.declared.reading.Reading.{Reading}
 use Rattle.part_rig.specs.Readings.{blanks_under}
 use Rattle.part_attempt.specs.declared.not_now.NotNow.TheVariants as reasons
 use Rattle.part_attempt.proofs.Standing.{stands}
 use Rattle.part_reach.specs.Turns.{IsReachedAfter, IsReachedBetween}
 use Rattle.part_reach.specs.UnderWay.{HasLooked, HoldsPlaces, IsUnderWay, LooksAgain, CameTo}
-use Rattle.part_reach.proofs.Places.{in_push}
 use Rattle.part_reach.proofs.Ways.{reached_before, same_place, legal_same, busy}
 
 -- ---- where a reached part stands

@@ -1,5 +1,5 @@
 -- Slots into which the parts in hand are written are those of the board to which the call led.
-use Rattle.std.proofs.Common.{◌≡◌, ℕ, zero, suc, ◌-◌, ◌<◌, ◌≤◌, true, false, true≢false, List, length, slice_get, is_some, Some, None, refl, sym, ap, ◌∙◌, subst, arith}
+use Rattle.std.proofs.Common.{◌≡◌, ℕ, zero, suc, ◌≤◌, true, true≢false, List, length, slice_get, is_some, Some, None, refl, sym, ap, ◌∙◌, subst, arith}
 use Rattle.std.specs.Prelude.{IfSome, option_map}
 use Rattle.std.specs.declared.option.Option.{Option}
 use Rattle.irq_base.specs.declared.shape.Part.TheVariants.{Registry, Counters, Tick, Pic, Ioapic, Lapic}
@@ -11,7 +11,7 @@ use Rattle.tick_reinject.specs.declared.state.TickState.{TickState}
 use Rattle.board_model.specs.Board.{Board}
 use Rattle.board_model.specs.Registry.{RegistryPart as KeptRegistry}
 use Rattle.board_model.specs.Chips.{PicPart as KeptPic, IoapicPart as KeptIoapic}
-use Rattle.board_model.specs.Hand.{part_in, all_parts, flat}
+use Rattle.board_model.specs.Hand.{part_in, all_parts}
 use Rattle.board_model.specs.Agreement.{Agrees}
 use Rattle.board_raise.specs.declared.parts.Parts.{Parts}
 use Rattle.board_raise.specs.declared.parts.RegistryPart.{RegistryPart}

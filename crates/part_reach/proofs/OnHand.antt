@@ -23,7 +23,7 @@ use Rattle.turn_book.proofs.Lists.{has}
 use Rattle.part_slots.specs.declared.slot.Slot.{Slot}
 use Rattle.part_slots.specs.Slots.{place, part_at, slots_of}
 use Rattle.part_slots.specs.Running.{Opens, IsStep}
-use Rattle.part_slots.specs.Histories.{value_in, KeepsPart}
+use Rattle.part_slots.specs.Histories.{KeepsPart}
 use Rattle.part_slots.specs.Commits.{Seen, IsHeld, HasInHand}
 use Rattle.part_slots.proofs.Inverse.{part_back, place_back}
 use Rattle.part_slots.proofs.Histories.{slots_keep_parts}

@@ -1,5 +1,5 @@
 -- Places of turns that were won: one more, and how many there can be.
-use Rattle.std.proofs.Common.{◌≡◌, ℕ, suc, ◌<◌, ◌≤◌, Bool, true, false, ◌||◌, ◌+◌, List, [], ◌∷◌, ◌++◌, length, nat_eq, refl, sym, ap, ◌∙◌, arith, inl, inr}
+use Rattle.std.proofs.Common.{◌≡◌, ℕ, ◌<◌, ◌≤◌, Bool, true, false, ◌||◌, List, [], ◌∷◌, ◌++◌, length, nat_eq, refl, sym, ap, ◌∙◌, arith, inl, inr}
 use Rattle.std.proofs.lemmas.Bool.Decides.{nat_tests, eqb_tells}
 use Rattle.std.proofs.lemmas.Map.Steps.{length-le_from_distinct_below}
 use Rattle.std.specs.Prelude.{eqb}
@@ -7,7 +7,6 @@ use Rattle.std.specs.List.{IsDistinct, AllByRecursion, list_any}
 use Rattle.turn_book.specs.Histories.{is_in}
 use Rattle.turn_book.specs.Many.{AllBelow, AreApart}
 use Rattle.turn_book.proofs.Lists.{in_less}
-use Rattle.part_reach.proofs.Copied.{not_both}
 
 -- ---- one more
 

@@ -13,7 +13,7 @@ use Rattle.irq_base.specs.declared.shape.Part.{Part}
 use Rattle.irq_base.specs.declared.shape.Part.TheVariants.{Registry}
 use Rattle.irq_base.specs.declared.shape.Shape.{Shape}
 use Rattle.board_model.specs.Board.{Board}
-use Rattle.board_model.specs.Hand.{Parts as InHand, part_in}
+use Rattle.board_model.specs.Hand.{Parts as InHand}
 use Rattle.board_raise.specs.declared.parts.Parts.{Parts}
 use Rattle.board_raise.specs.InHand.{parts_of}
 use Rattle.board_calls.specs.Done.{SameInHand, FitsShape, FitsButTick}

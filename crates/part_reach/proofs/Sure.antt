@@ -10,21 +10,21 @@ use Rattle.irq_base.specs.declared.call.Call.TheVariants as calls
 use Rattle.irq_base.specs.declared.call.Caller.{Caller}
 use Rattle.irq_base.specs.declared.message.Message.{Message}
 use Rattle.irq_base.specs.declared.shape.Part.{Part}
-use Rattle.irq_base.specs.declared.shape.Part.TheVariants.{Registry, Counters, Tick, Pic, Ioapic, Lapic}
+use Rattle.irq_base.specs.declared.shape.Part.TheVariants.{Registry, Pic, Ioapic, Lapic}
 use Rattle.irq_base.specs.declared.shape.Shape.{Shape}
 use Rattle.pic_8259a.specs.Pair.{is_port}
 use Rattle.dest_match.specs.Match.{broadcast}
 use Rattle.lapic.specs.Messages.{is_taken}
 use Rattle.msi_decode.specs.Messages.{message_in, message_of}
-use Rattle.board_model.specs.Board.{Board, is_same}
+use Rattle.board_model.specs.Board.{Board}
 use Rattle.board_model.specs.Routing.{routing_of_registry}
 use Rattle.board_raise.specs.ReachLaws.{of_message, is_of_one}
 use Rattle.board_raise.specs.Send.{numbers_below}
 use Rattle.board_ack.specs.ReachLaws.{of_acknowledge_each}
 use Rattle.board_calls.specs.Calls.{number_of}
 use Rattle.board_calls.specs.Refusals.{range_reasons, is_ioapic_address, is_lapic_address}
-use Rattle.board_step.specs.Reach.{of_call, of_pair, of_ring, of_store, reach}
-use Rattle.part_reach.specs.Sure.{IsSure, named_alone, chip_or, sure_part}
+use Rattle.board_step.specs.Reach.{of_call, reach}
+use Rattle.part_reach.specs.Sure.{IsSure, named_alone, sure_part}
 use Rattle.part_reach.proofs.Copied.{number_itself}
 
 -- ---- messages

@@ -1,20 +1,18 @@
 -- What an attempt came to, from where it is under way.
-use Rattle.std.proofs.Common.{◌≡◌, ◌≢◌, ℕ, zero, suc, List, [], ◌∷◌, ◌++◌, length, take, All, Some, refl, sym, ap, ◌∙◌, subst, append-nil}
+use Rattle.std.proofs.Common.{◌≡◌, ℕ, List, [], ◌∷◌, ◌++◌, length, take, All, Some, refl, sym, ap, ◌∙◌, subst, append-nil}
 use Rattle.std.specs.Prelude.{Ok, Err}
 use Rattle.irq_base.specs.declared.call.Call.{Call}
 use Rattle.irq_base.specs.declared.call.Caller.{Caller}
 use Rattle.irq_base.specs.declared.event.Event.{Event}
 use Rattle.irq_base.specs.declared.lists.Entry.{Entry}
-use Rattle.irq_base.specs.declared.reply.Done.{Done}
 use Rattle.irq_base.specs.declared.shape.Part.{Part}
 use Rattle.irq_base.specs.declared.shape.Shape.{Shape}
 use Rattle.board_step.specs.Bodies.{entry_of}
-use Rattle.board_step.specs.History.{opening, Leads}
 use Rattle.turn_book.specs.declared.view.Front.{Front}
 use Rattle.turn_book.specs.Histories.{IsPrefix, Runs, entries_of}
 use Rattle.turn_book.specs.Many.{given_all}
 use Rattle.turn_book.specs.Views.{IsLegal, AddsNoneOfOwn, SamePlace, SameList, given_view}
-use Rattle.turn_book.proofs.Lists.{all_more, prefix-trans, prefix-nil}
+use Rattle.turn_book.proofs.Lists.{all_more, prefix-trans}
 use Rattle.part_slots.specs.Callers.{caller_number}
 use Rattle.part_slots.specs.Commits.{Seen}
 use Rattle.part_slots.specs.Running.{Opens, IsStep, caller_of}

@@ -1,5 +1,4 @@
-use Rattle.std.proofs.Common.{◌≡◌, ◌+◌, ◌≤◌, sym, ap, ◌∙◌, subst, arith}
-use Rattle.turn_book.specs.Many.{AllBelow}
+use Rattle.std.proofs.Common.{sym, ap, ◌∙◌, subst}
 use Rattle.turn_book.specs.Views.{view_of}
 use Rattle.turn_copies.proofs.Given.{given_place, given_list, given_turns}
 use Rattle.part_slots.specs.Commits.{Seen}

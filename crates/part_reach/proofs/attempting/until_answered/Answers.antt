@@ -1,4 +1,4 @@
-use Rattle.std.proofs.Common.{◌≡◌, [], sym, subst, Err}
+use Rattle.std.proofs.Common.{sym, subst, Err}
 use Rattle.irq_base.specs.declared.event.Event.{Event}
 use Rattle.std.specs.Prelude.{List}
 use Rattle.turn_book.specs.Views.{view_of}

@@ -1,4 +1,4 @@
-use Rattle.std.proofs.Common.{◌≡◌, [], ◌∷◌, ◌++◌, Ok, Err, sym, ap, ◌∙◌, subst}
+use Rattle.std.proofs.Common.{[], ◌∷◌, ◌++◌, Ok, Err, sym, ap, ◌∙◌, subst}
 use Rattle.irq_base.specs.declared.shape.Part.{Part}
 use Rattle.turn_book.specs.Views.{view_of}
 use Rattle.part_slots.specs.Commits.{Seen}

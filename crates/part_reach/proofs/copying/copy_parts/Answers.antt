@@ -1,6 +1,4 @@
-use Rattle.std.proofs.Common.{◌≡◌, Some, refl, sym, ap, ◌∙◌, subst}
-use Rattle.board_model.specs.Board.{Board}
-use Rattle.board_raise.specs.declared.parts.Parts.{Parts}
+use Rattle.std.proofs.Common.{refl, sym, ap, ◌∙◌, subst}
 use Rattle.turn_book.specs.Views.{view_of}
 use Rattle.turn_copies.specs.Copies.{copied_each}
 use Rattle.part_copies.specs.Copied.{with_copy}

@@ -1,12 +1,9 @@
-use Rattle.std.proofs.Common.{◌≡◌, is_some, Some, refl, sym, ap, ◌∙◌, subst}
+use Rattle.std.proofs.Common.{is_some, refl, sym, ap, ◌∙◌, subst}
 use Rattle.turn_book.specs.Hands.{held_at, slot_at}
-use Rattle.turn_book.specs.Histories.{is_in}
 use Rattle.turn_book.specs.Many.{HoldsJust}
 use Rattle.turn_book.specs.Views.{view_of, slots_of, IsLegal}
-use Rattle.turn_copies.specs.Copies.{written_at}
 use Rattle.part_slots.specs.Commits.{Seen}
 use Rattle.part_slots.specs.Running.{Opens, IsStep}
-use Rattle.part_rig.specs.Rooms.{written_from}
 use Rattle.part_attempt.specs.Entering.{entry_answered}
 use Rattle.part_reach.proofs.Entered.{range_is, has_registry, leads_on, reach_held, has_drafted, all_fit, all_home}
 use Rattle.part_reach.proofs.entering.enter.Goals as goal

@@ -1,8 +1,7 @@
-use Rattle.std.proofs.Common.{◌≡◌, ◌+◌, ◌≤◌, ◌<◌, [], length, sym, ap, ◌∙◌, subst, arith}
+use Rattle.std.proofs.Common.{◌+◌, [], sym, subst, arith}
 use Rattle.std.proofs.lemmas.List.{append-nil}
 use Rattle.std.proofs.lemmas.List.Elements.{All-nil}
 use Rattle.turn_book.specs.Views.{view_of}
-use Rattle.part_slots.specs.Commits.{Seen}
 use Rattle.part_slots.specs.Slots.{place}
 use Rattle.part_reach.specs.declared.want.Want.{Want}
 use Rattle.part_reach.specs.Turns.{IsReachedBetween}

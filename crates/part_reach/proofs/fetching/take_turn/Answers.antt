@@ -1,9 +1,7 @@
-use Rattle.std.proofs.Common.{◌≡◌, refl, ◌+◌, ◌<◌, ◌∷◌, ◌++◌, [], ◌||◌, nat_eq, length, is_some, sym, ap, ◌∙◌, subst, arith}
+use Rattle.std.proofs.Common.{refl, ◌+◌, ◌∷◌, ◌++◌, [], ◌||◌, nat_eq, is_some, sym, ap, ◌∙◌, subst, arith}
 use Rattle.std.proofs.lemmas.List.{length-append}
 use Rattle.turn_book.specs.Hands.{held_at}
 use Rattle.turn_book.specs.Views.{view_of}
-use Rattle.turn_book.specs.Histories.{is_in}
-use Rattle.turn_book.specs.Many.{AllBelow}
 use Rattle.part_slots.specs.Slots.{place}
 use Rattle.part_reach.specs.UnderWay.{HoldsPlaces}
 use Rattle.part_reach.proofs.Places.{in_push, below_push, apart_push, so_few}

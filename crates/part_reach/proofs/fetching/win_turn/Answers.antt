@@ -1,4 +1,4 @@
-use Rattle.std.proofs.Common.{◌≡◌, ◌+◌, ◌≤◌, length, arith}
+use Rattle.std.proofs.Common.{◌+◌, arith}
 use Rattle.part_reach.proofs.Places.{so_few}
 use Rattle.part_reach.proofs.fetching.win_turn.Goals as goal
 
