@@ -31,7 +31,8 @@ pub fn run_text<R: Threads + Wait + Sync, S: Source, K: Sink, G: Gate>(
     ensures length { ReadsRightly (S.left source.old) (S.left source.new) result }
     ensures input { JudgesRightly Command.Run (S.left source.old) (S.left source.new) result }
     ensures output { WritesRightly Command.Run (S.left source.old) (K.holds sink.old) (K.holds sink.new) result }
-    ensures bench { LeavesRun Command.Run bench.new.live (S.left source.old) (S.left source.new) (K.holds sink.old) (K.holds sink.new) result }
+    ensures bench { LeavesRun Command.Run bench.new.live (S.left source.old) (S.left source.new)
+        (K.holds sink.old) (K.holds sink.new) result }
     ensures silent { KeepsSilent (K.holds sink.old) (K.holds sink.new) result }
     ensures read_fault { result ≡ Outcome.ReadFault → Rose (S.faults source.old) (S.faults source.new) }
     ensures write_fault { result ≡ Outcome.WriteFault → Rose (K.faults sink.old) (K.faults sink.new) }

@@ -152,9 +152,9 @@ fn made<K: Sink>(alloc: Global, making: Making, sink: &mut K) -> Outcome
     }
 }
 
-/// All that the program does: the word `replay` alone replays a script, the word `run` alone runs its actors side by side on a running board,
-/// the word `check` alone checks a transcript, `gen` with three numbers writes a generated script and `sum` with three numbers its summary,
-/// and any other words are refused. `gen` and `sum` read nothing.
+/// All that the program does: the word `replay` alone replays a script, the word `run` alone runs its actors side by side on a running
+/// board, the word `check` alone checks a transcript, `gen` with three numbers writes a generated script and `sum` with three numbers its
+/// summary, and any other words are refused. `gen` and `sum` read nothing.
 ///
 /// `run` tells the gate of each turn of each actor, and leaves the running board on the bench; no other word uses them. That `run`
 /// returns is not promised.
