@@ -50,7 +50,8 @@ fn begin(
     ensures home { AreHome (view_of pen.new.seat).held (slots_of pen.new.seat) }
     ensures looked { IfOk result (HasLooked shape.now caller (view_of pen.new.seat)) }
     ensures holds { HoldsPlaces shape.now (view_of pen.new.seat) places.new.items }
-    ensures way { IfOk result (λ had. IsUnderWay shape.now caller call.now (view_of pen.old.seat) (view_of pen.new.seat) had places.new.items) }
+    ensures way { IfOk result (λ had.
+        IsUnderWay shape.now caller call.now (view_of pen.old.seat) (view_of pen.new.seat) had places.new.items) }
     ensures published { IfOk result (λ _. IfSome (view_of pen.new.seat).now (λ b. words b ≡ list_of room.new.rig.known)) }
     ensures under { IfOk result (λ had. room.new.rig.known.looked ≡ had.generation) }
     ensures settled { IfOk result (λ _. room.new.rig.known.settled ≡ true) }
@@ -100,7 +101,8 @@ pub(crate) fn set_out(
     ensures home { AreHome (view_of pen.new.seat).held (slots_of pen.new.seat) }
     ensures looked { IfOk result (HasLooked shape.now caller (view_of pen.new.seat)) }
     ensures holds { HoldsPlaces shape.now (view_of pen.new.seat) places.new.items }
-    ensures way { IfOk result (λ had. IsUnderWay shape.now caller call.now (view_of pen.old.seat) (view_of pen.new.seat) had places.new.items) }
+    ensures way { IfOk result (λ had.
+        IsUnderWay shape.now caller call.now (view_of pen.old.seat) (view_of pen.new.seat) had places.new.items) }
     ensures published { IfOk result (λ _. IfSome (view_of pen.new.seat).now (λ b. words b ≡ list_of room.new.rig.known)) }
     ensures under { IfOk result (λ had. room.new.rig.known.looked ≡ had.generation) }
     ensures settled { IfOk result (λ _. room.new.rig.known.settled ≡ true) }
