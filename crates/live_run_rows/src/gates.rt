@@ -8,6 +8,7 @@ const TURNS: u32 = 1_000_000_000;
 
 /// A gate at which two actors meet: the first waits before its first call until the second has made one, which waits there until the
 /// first has made one too. Actors that run one after another, in any order, leave a note.
+#[derive(Drop)]
 pub(crate) struct Meeting {
     first: AtomicU64,
     second: AtomicU64,

@@ -1,7 +1,7 @@
 // Runs of small scripts.
 
 use crate::gates::Meeting;
-use crate::runs::{Ran, ran};
+use crate::runs::{Ran, run_text};
 use io_edge::OpenGate;
 use irq_base::Spent;
 
@@ -20,7 +20,7 @@ end
 #[test]
 fn actors_run_at_the_same_time(rt: HostRuntime) {
     let gate = Meeting::new();
-    let ran = ran(&rt, rt.alloc(), MEETING, &gate);
+    let ran = run_text(&rt, rt.alloc(), MEETING, &gate);
     assert!(rt;
         ran == Some(Ran {
             entries: 5,
@@ -46,7 +46,7 @@ end
 
 #[test]
 fn a_limit_stops_a_run(rt: HostRuntime) {
-    let ran = ran(&rt, rt.alloc(), LIMITED, &OpenGate);
+    let ran = run_text(&rt, rt.alloc(), LIMITED, &OpenGate);
     let spent = Some(Spent::Calls { at: 3 });
     assert!(rt;
         ran == Some(Ran {
@@ -61,7 +61,7 @@ fn a_limit_stops_a_run(rt: HostRuntime) {
 // Without an actor there is nothing to run.
 #[test]
 fn no_actor_runs(rt: HostRuntime) {
-    let ran = ran(&rt, rt.alloc(), "irqboard 1\ncpus 1\nend\n", &OpenGate);
+    let ran = run_text(&rt, rt.alloc(), "irqboard 1\ncpus 1\nend\n", &OpenGate);
     assert!(rt;
         ran == Some(Ran {
             entries: 0,

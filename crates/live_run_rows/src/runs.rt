@@ -38,7 +38,7 @@ fn is_legal(alloc: Global, script: &Script, run: &Transcript) -> bool {
 }
 
 /// What the run of a script comes to, if it is one.
-pub(crate) fn ran<R: Threads + Wait + Sync, G: Gate>(
+pub(crate) fn run_text<R: Threads + Wait + Sync, G: Gate>(
     rt: &R,
     alloc: Global,
     text: &str,
