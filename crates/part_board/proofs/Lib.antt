@@ -10,3 +10,4 @@ pub mod Faces
 pub mod Reached
 pub mod DueSlots
 pub mod Watches
+pub mod Crossing
