@@ -1,5 +1,0 @@
-use Rattle.part_board.specs.Seen.{IsPassOf}
-use Rattle.live_rows.proofs.interprocessor.exchange.Given as goal
-
-abbrev pub invariant-loop-k : goal.invariant-loop-k
-invariant-loop-k g l = IsPassOf l.board l.pass
