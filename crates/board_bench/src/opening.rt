@@ -1,5 +1,5 @@
 //! Running boards, and passes of their processors.
-ghost use Rattle.std.specs.Prelude.{◌≡◌, ◌<◌, ◌≤◌, All, IfOk};
+ghost use Rattle.std.specs.Prelude.{◌≡◌, ◌<◌, ◌≤◌, ◌++◌, ◌∷◌, [], All, IfOk, OnOk};
 ghost use Rattle.part_board.specs.Seen.{IsDeskOf, IsPassOf};
 
 use board_step::OpenError;
@@ -46,6 +46,35 @@ pub fn pass_of(
     }
 }
 
+// Puts the pass behind the others.
+fn push(passes: &mut Vec<Pass>, pass: Pass) -> Result<(), OpenError>
+    ensures { OnOk result (passes.new.items ≡ passes.old.items ++ pass ∷ []) }
+{
+    match passes.push(pass) {
+        Ok(()) => Ok(()),
+        Err(_) => Err(OpenError::NoMemory),
+    }
+}
+
+// The pass of a processor, behind others.
+fn add_pass(
+    alloc: Global,
+    board: &LiveBoard,
+    desk: &mut Desk,
+    passes: &mut Vec<Pass>,
+    cpu: u16,
+) -> Result<(), OpenError>
+    requires desk { IsDeskOf board.now desk.old }
+    requires cpu { cpu < board.now.shape.cpus }
+    requires passes { All (IsPassOf board.now) passes.old.items }
+    ensures desk { IsDeskOf board.now desk.new }
+    ensures passes { OnOk result (All (IsPassOf board.now) passes.new.items) }
+{
+    let pass = pass_of(alloc, board, desk, cpu)?;
+    push(passes, pass)?;
+    Ok(())
+}
+
 /// The passes of the first so many processors.
 pub fn passes_of(
     alloc: Global,
@@ -60,10 +89,7 @@ pub fn passes_of(
 {
     let mut passes = Vec::new(alloc);
     for cpu in 0..count {
-        let pass = pass_of(alloc, board, desk, cpu)?;
-        if passes.push(pass).is_err() {
-            return Err(OpenError::NoMemory);
-        }
+        add_pass(alloc, board, desk, &mut passes, cpu)?;
     }
     Ok(passes)
 }

@@ -1,5 +1,7 @@
-use Rattle.part_board.proofs.Crossing.{pass_send}
+use denote.Param.Send.{sendable}
+use Rattle.std.proofs.Crossing.{crosses}
+use Rattle.part_board.proofs.Crossing.{pass_field, pass_send}
 use Rattle.board_bench.proofs.live.on_threads.Goals as goal
 
 pub map_vec-requires-send-J : goal.map_vec-requires-send-J
-map_vec-requires-send-J g c = pass_send
+map_vec-requires-send-J g c = search (sendable, crosses, pass_field, pass_send) depth 20
