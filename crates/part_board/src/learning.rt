@@ -15,7 +15,6 @@ use crate::live::LiveBoard;
 use crate::note::Note;
 use crate::pass::Pass;
 use irq_base::Caller;
-use part_attempt::Places;
 use part_rig::Workroom;
 use part_slots::caller_number;
 use std::alloc::Global;
@@ -55,7 +54,6 @@ impl Desk {
             caller,
             shape: self.shape,
             room,
-            places: Places::new(),
         })
     }
 

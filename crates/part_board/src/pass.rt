@@ -8,7 +8,6 @@ ghost use Rattle.part_rig.specs.Rooms.{AreAt};
 ghost use Rattle.part_reach.specs.Kept.{has_registry_room, counters_in};
 
 use irq_base::{Caller, Shape};
-use part_attempt::Places;
 use part_machine::RunningBoard;
 use part_rig::Workroom;
 use turn_book::Pen;
@@ -21,8 +20,6 @@ pub struct Pass {
     pub(crate) shape: Shape,
     // for the copies of a call, and what is known of the published words
     pub(crate) room: Workroom,
-    // for the places of the turns that a call takes; between two calls they mean nothing
-    pub(crate) places: Places,
     pub ghost begins: { (pen.seat.me.0).begin ≡ Some (opening shape) },
     pub ghost bare: { (pen.seat.me.0).held ≡ [] },
     pub ghost named: { (pen.seat.me.0).caller ≡ Some (caller_number caller) },

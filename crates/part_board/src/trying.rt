@@ -11,7 +11,7 @@ ghost use Rattle.part_board.specs.Tried.{IsEntered};
 use crate::live::LiveBoard;
 use crate::pass::Pass;
 use irq_base::{Call, Done, Events, Spent};
-use part_attempt::NotNow;
+use part_attempt::{NotNow, Places};
 use part_reach::attempt;
 
 impl LiveBoard {
@@ -47,11 +47,12 @@ impl LiveBoard {
         ensures reached { FindsReached self.now.shape pass.old.caller call.now result (pass_seen pass.new) }
     {
         let caller = pass.caller;
+        let mut places = Places::new();
         attempt(
             &self.book,
             &mut pass.pen,
             &self.shape,
-            &mut pass.places,
+            &mut places,
             &mut pass.room,
             caller,
             call,
