@@ -1,6 +1,0 @@
-pub mod Crossing
-pub mod Passes
-pub mod Places
-pub mod Ways
-pub mod Rounds
-pub mod Together

@@ -1,4 +1,0 @@
-pub mod Made
-pub mod Running
-pub mod Telling
-pub mod Ran
