@@ -1,0 +1,6 @@
+pub mod Crossing
+pub mod Passes
+pub mod Places
+pub mod Ways
+pub mod Rounds
+pub mod Together

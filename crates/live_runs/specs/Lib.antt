@@ -1,0 +1,4 @@
+pub mod Made
+pub mod Running
+pub mod Telling
+pub mod Ran
