@@ -6,7 +6,7 @@ use Rattle.std.specs.declared.io.Error.{Error}
 use Rattle.std.specs.Io.KnownBytes.{Consumes}
 use Rattle.irqboard.specs.Answers.{ReadsRightly}
 use Rattle.irqboard.specs.Input.{HasRead}
-use Rattle.irqboard.specs.Making.{AreNone, IsMade, MakesRightly, making_of}
+use Rattle.irqboard.specs.Making.{AreNone, MakesRightly, making_of}
 use Rattle.irqboard.specs.Words.{Texts, words_in, KnowsWords}
 use Rattle.irqboard.specs.declared.making.Making.{Making}
 use Rattle.irqboard.specs.declared.outcome.Outcome.{Outcome}

@@ -2,8 +2,10 @@ pub mod Input
 pub mod Output
 pub mod Parting
 pub mod Commands
+pub mod Runs
 pub mod Works
 pub mod Done
 pub mod Answers
+pub mod Benches
 pub mod Making
 pub mod Words

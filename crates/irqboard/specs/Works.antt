@@ -17,8 +17,10 @@ use Rattle.legal_check.specs.declared.verdict.Verdict.{Verdict}
 use Rattle.legal_check.specs.declared.verdict.Verdict.TheVariants.{Legal, NotAt}
 use Rattle.legal_check.specs.Verdicts.{IsVerdict}
 use Rattle.irqboard.specs.Parting.{script_and_transcript}
+use Rattle.irqboard.specs.Runs.{IsLiveRun}
+use Rattle.irqboard.specs.declared.live.Live.{Live}
 use Rattle.irqboard.specs.declared.command.Command.{Command}
-use Rattle.irqboard.specs.declared.command.Command.TheVariants.{Replay, Check}
+use Rattle.irqboard.specs.declared.command.Command.TheVariants.{Replay, Run, Check}
 use Rattle.irqboard.specs.declared.outcome.Outcome.{Outcome}
 use Rattle.irqboard.specs.declared.outcome.Outcome.TheVariants.{Fine, NotLegal, Spent}
 
@@ -33,6 +35,13 @@ pub record IsReplay (input : List ℕ) (spent : Option Limit) (text : List ℕ) 
   pub replays : Replays script history spent
   pub laws : KeepsTheLaws script.shape history
   pub written : text ≡ text_of (run_of history spent)
+
+-- ---- run
+
+-- the input is a script, and the text is the transcript of a run of its actors on some running board
+pub record IsRunText (input : List ℕ) (spent : Option Limit) (text : List ℕ) : Type 0 where
+  pub live : Live
+  pub run : IsLiveRun live input spent text
 
 -- ---- check
 
@@ -66,6 +75,8 @@ pub record IsCheck (input : List ℕ) (verdict : Verdict) (text : List ℕ) : Ty
 abbrev pub Works : Command → List ℕ → Outcome → List ℕ → Type 0
 Works Replay input Fine text = IsReplay input None text
 Works Replay input (Spent limit) text = IsReplay input (Some limit) text
+Works Run input Fine text = IsRunText input None text
+Works Run input (Spent limit) text = IsRunText input (Some limit) text
 Works Check input Fine text = IsCheck input Legal text
 Works Check input (NotLegal at flaw) text = IsCheck input (NotAt at flaw) text
 Works _ input _ text = ⊥
@@ -73,9 +84,11 @@ Works _ input _ text = ⊥
 -- the input has this first bad line, with this cause
 abbrev pub HasBadLine : Command → List ℕ → ℕ → LineCause → Type 0
 HasBadLine Replay input line cause = script_of input ≡ Err (line, cause)
+HasBadLine Run input line cause = script_of input ≡ Err (line, cause)
 HasBadLine Check input line cause = script_and_transcript input ≡ Err (line, cause)
 
 -- the input has none
 abbrev pub IsInGrammar : Command → List ℕ → Type 0
 IsInGrammar Replay input = (s : Script) × (script_of input ≡ Ok s)
+IsInGrammar Run input = (s : Script) × (script_of input ≡ Ok s)
 IsInGrammar Check input = (both : Script × Transcript) × (script_and_transcript input ≡ Ok both)

@@ -9,6 +9,8 @@ use io_edge::Word;
 pub enum Command {
     /// Ask the lines of a script, and write their transcript.
     Replay,
+    /// Run the actors of a script side by side on a running board, and write their transcript.
+    Run,
     /// Check a transcript behind its script, and write the verdict.
     Check,
 }
@@ -21,6 +23,8 @@ pub fn command_of(words: &[Word]) -> Option<Command>
         [word] => {
             if word.bytes() == b"replay".as_slice() {
                 Some(Command::Replay)
+            } else if word.bytes() == b"run".as_slice() {
+                Some(Command::Run)
             } else if word.bytes() == b"check".as_slice() {
                 Some(Command::Check)
             } else {

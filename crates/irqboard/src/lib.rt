@@ -2,12 +2,16 @@
 //!
 //! `irqboard` is all that the program does, over any source, sink and gate; `asked`, `said` and the report of `Ended` add the words
 //! of the command line, the line on standard error and the exit status. Its contract says of each answer when it comes: `Works` says what
-//! is written at `Outcome::Fine`, `Outcome::Spent` and `Outcome::NotLegal`.
+//! is written at `Outcome::Fine`, `Outcome::Spent` and `Outcome::NotLegal`, and `Benches` what `run` leaves on its `Bench`.
 //!
-//! Reading order of the definitions: `Parting`, `Works`, `Commands`, `Input`, `Output`, `Answers`, `Making`, `Words`.
+//! Reading order of the definitions: `Parting`, `Runs`, `Works`, `Commands`, `Input`, `Output`, `Answers`, `Benches`, `Making`, `Words`.
 #![tactic(auto)]
 
+mod bench;
 mod command;
+mod live;
+mod live_top;
+mod live_work;
 mod making;
 mod outcome;
 mod parting;
@@ -18,7 +22,10 @@ mod words;
 mod work;
 mod writing;
 
+pub use bench::Bench;
 pub use command::Command;
+pub use live::Live;
+pub use live_top::run_text;
 pub use making::{Making, Product};
 pub use outcome::Outcome;
 pub use program::{Answered, Ended, asked};

@@ -4,11 +4,13 @@ ghost use Rattle.std.specs.Io.KnownBytes.{Appends};
 ghost use Rattle.io_edge.specs.Faults.{Rose};
 ghost use Rattle.irqboard.specs.Commands.{command_of};
 ghost use Rattle.irqboard.specs.Answers.{status_of, said_of, ReadsRightly, JudgesRightly, WritesRightly, KeepsSilent, IsGood, IsAnswered};
+ghost use Rattle.irqboard.specs.Benches.{LeavesRun};
 ghost use Rattle.irqboard.specs.Making.{making_of, IsMade, MakesRightly};
 ghost use Rattle.irqboard.specs.Output.{AppendsFront};
 ghost use Rattle.irqboard.specs.Words.{words_in, KnowsWords};
 ghost use Rattle.std.specs.Process.{exit_status};
 
+use crate::bench::Bench;
 use crate::outcome::Outcome;
 use crate::top::irqboard;
 use crate::words::{without_words, words_of};
@@ -19,6 +21,8 @@ use std::env::Args;
 use std::io;
 use std::marker::Model;
 use std::process::{ExitCode, Termination};
+use std::sync::Wait;
+use std::thread::Threads;
 
 /// What a run came to, before it is said. Only `asked` makes one, and it cannot be let go: only `said` takes it.
 pub struct Answered {
@@ -48,13 +52,15 @@ impl Model for Ended {
 }
 
 /// Asks the top call for the words of a command line, whose first text is the program's name. Where the texts are not to be had,
-/// nothing is written, and the answer is by what kept them away.
-pub fn asked<S: Source, K: Sink, G: Gate>(
+/// nothing is written, and the answer is by what kept them away. That it returns is not promised for the word `run`.
+pub fn asked<R: Threads + Wait + Sync, S: Source, K: Sink, G: Gate>(
+    rt: &R,
     alloc: Global,
     texts: io::Result<Args>,
     source: &mut S,
     sink: &mut K,
     gate: &G,
+    bench: &mut Bench,
 ) -> Answered
     ensures usage { KnowsWords texts result }
     ensures length { ReadsRightly (S.left source.old) (S.left source.new) result }
@@ -62,6 +68,8 @@ pub fn asked<S: Source, K: Sink, G: Gate>(
         JudgesRightly command (S.left source.old) (S.left source.new) result)) }
     ensures output { IfOk texts (λ t. IfSome (command_of (words_in t)) (λ command.
         WritesRightly command (S.left source.old) (K.holds sink.old) (K.holds sink.new) result)) }
+    ensures bench { IfOk texts (λ t. IfSome (command_of (words_in t)) (λ command.
+        LeavesRun command bench.new.live (S.left source.old) (S.left source.new) (K.holds sink.old) (K.holds sink.new) result)) }
     ensures made { IfOk texts (λ t. IfSome (making_of (words_in t)) (λ making.
         MakesRightly (IsMade making) (K.holds sink.old) (K.holds sink.new) result)) }
     ensures unread { IfOk texts (λ t. IfSome (making_of (words_in t)) (λ _. S.left source.new ≡ S.left source.old)) }
@@ -89,7 +97,7 @@ pub fn asked<S: Source, K: Sink, G: Gate>(
         };
     };
     Answered {
-        outcome: irqboard(alloc, words.as_slice(), source, sink, gate),
+        outcome: irqboard(rt, alloc, words.as_slice(), source, sink, gate, bench),
     }
 }
 

@@ -3,12 +3,15 @@ ghost use Rattle.std.specs.Prelude.{◌≡◌, ◌≢◌, ◌↔◌, None, IfSom
 ghost use Rattle.io_edge.specs.Faults.{Rose};
 ghost use Rattle.irqboard.specs.Commands.{command_of};
 ghost use Rattle.irqboard.specs.Answers.{ReadsRightly, JudgesRightly, WritesRightly, KeepsSilent, IsGood, IsAnswered};
+ghost use Rattle.irqboard.specs.Benches.{LeavesRun};
 ghost use Rattle.irqboard.specs.Making.{making_of, AreNone, IsMade, MakesRightly};
 ghost use Rattle.workload_gen.specs.Laws.{IsInRange};
 ghost use Rattle.workload_gen.specs.Text.{workload_text};
 ghost use Rattle.workload_sum.specs.Summary.{IsSummary};
 
+use crate::bench::Bench;
 use crate::command::{Command, command_of};
+use crate::live_top::run_text;
 use crate::making::{Making, Product, making_of};
 use crate::outcome::Outcome;
 use crate::reading::{Stop, read_whole};
@@ -17,11 +20,14 @@ use crate::writing::write_whole;
 use io_edge::{Gate, Sink, Source, Word};
 use script_text::ScriptFault;
 use std::alloc::Global;
+use std::sync::Wait;
+use std::thread::Threads;
 use workload_gen::generate;
 use workload_sum::sum;
 
-// Reads the whole input, does the work of a command on it, and writes the text of the work.
+// Reads the whole input, does the work of `replay` or `check` on it, and writes the text of the work.
 fn run<S: Source, K: Sink>(alloc: Global, command: Command, source: &mut S, sink: &mut K) -> Outcome
+    requires { command ≢ Command.Run }
     ensures usage { result ≢ Outcome.Usage }
     ensures length { ReadsRightly (S.left source.old) (S.left source.new) result }
     ensures input { JudgesRightly command (S.left source.old) (S.left source.new) result }
@@ -146,15 +152,20 @@ fn made<K: Sink>(alloc: Global, making: Making, sink: &mut K) -> Outcome
     }
 }
 
-/// All that the program does: the word `replay` alone replays a script, the word `check` alone checks a transcript, `gen` with three numbers
-/// writes a generated script and `sum` with three numbers its summary, and any other words are refused. `gen` and `sum` read nothing.
-/// The gate is for words that run actors side by side.
-pub fn irqboard<S: Source, K: Sink, G: Gate>(
+/// All that the program does: the word `replay` alone replays a script, the word `run` alone runs its actors side by side on a running
+/// board, the word `check` alone checks a transcript, `gen` with three numbers writes a generated script and `sum` with three numbers its
+/// summary, and any other words are refused. `gen` and `sum` read nothing.
+///
+/// `run` tells the gate of each turn of each actor, and leaves the running board on the bench; no other word uses them. That `run`
+/// returns is not promised.
+pub fn irqboard<R: Threads + Wait + Sync, S: Source, K: Sink, G: Gate>(
+    rt: &R,
     alloc: Global,
     words: &[Word],
     source: &mut S,
     sink: &mut K,
-    _gate: &G,
+    gate: &G,
+    bench: &mut Bench,
 ) -> Outcome
     ensures usage { (result ≡ Outcome.Usage) ↔ AreNone words.now }
     ensures length { ReadsRightly (S.left source.old) (S.left source.new) result }
@@ -162,6 +173,8 @@ pub fn irqboard<S: Source, K: Sink, G: Gate>(
         JudgesRightly command (S.left source.old) (S.left source.new) result) }
     ensures output { IfSome (command_of words.now) (λ command.
         WritesRightly command (S.left source.old) (K.holds sink.old) (K.holds sink.new) result) }
+    ensures bench { IfSome (command_of words.now) (λ command.
+        LeavesRun command bench.new.live (S.left source.old) (S.left source.new) (K.holds sink.old) (K.holds sink.new) result) }
     ensures made { IfSome (making_of words.now) (λ making.
         MakesRightly (IsMade making) (K.holds sink.old) (K.holds sink.new) result) }
     ensures unread { IfSome (making_of words.now) (λ _. S.left source.new ≡ S.left source.old) }
@@ -177,6 +190,7 @@ pub fn irqboard<S: Source, K: Sink, G: Gate>(
 {
     match command_of(words) {
         Some(Command::Replay) => replay(alloc, source, sink),
+        Some(Command::Run) => run_text(rt, alloc, source, sink, gate, bench),
         Some(Command::Check) => check_text(alloc, source, sink),
         None => match making_of(words) {
             Some(making) => made(alloc, making, sink),

@@ -1,5 +1,5 @@
 //! The work of a command on an input that was read.
-ghost use Rattle.std.specs.Prelude.{◌≡◌, ◌≤◌, length, IfOk, IfErr};
+ghost use Rattle.std.specs.Prelude.{◌≡◌, ◌≢◌, ◌≤◌, length, IfOk, IfErr};
 ghost use Rattle.irqboard.specs.Works.{Works, flaw_text, verdict_text};
 ghost use Rattle.irqboard.specs.Done.{answer_of_replay, answer_of_check, HasFault};
 
@@ -23,8 +23,8 @@ pub struct Work {
     pub text: Bytes,
 }
 
-// How a replay ends whose whole text was written.
-fn answer_of_replay(spent: Option<Spent>) -> Outcome
+/// How a replay or a run ends whose whole text was written.
+pub fn answer_of_replay(spent: Option<Spent>) -> Outcome
     ensures { result ≡ answer_of_replay spent }
 {
     match spent {
@@ -124,14 +124,16 @@ fn checked(alloc: Global, input: &[u8]) -> Result<Work, ScriptFault>
     }
 }
 
-/// The work of a command on an input: its answer and its text, or the first bad line of the input.
+/// The work of `replay` or `check` on an input: its answer and its text, or the first bad line of the input.
 pub fn work_of(alloc: Global, command: Command, input: &[u8]) -> Result<Work, ScriptFault>
-    requires { length input.now ≤ LIMIT }
+    requires length { length input.now ≤ LIMIT }
+    requires one_thread { command ≢ Command.Run }
     ensures done { IfOk result (λ work. Works command input.now work.outcome work.text) }
     ensures fault { IfErr result (HasFault command input.now) }
 {
     match command {
         Command::Replay => replayed(alloc, input),
+        Command::Run => unreachable!(),
         Command::Check => checked(alloc, input),
     }
 }

@@ -5,7 +5,9 @@ use irq_base::LineCause;
 use irqboard::Outcome;
 use legal_check::Flaw;
 use std::alloc::Global;
+use std::sync::Wait;
 use std::test::Fail;
+use std::thread::Threads;
 
 // In the first transcript: what is put in the place of what, and the place and the flaw of the verdict.
 const FIRST_FLAWS: [(&str, &str, u64, Flaw); 12] = [
@@ -122,20 +124,20 @@ fn changed(alloc: Global, text: &str, old: &str, new: &str) -> Result<String, Fa
 }
 
 // Whether the transcript is legal, and each change of it has its flaw, which is written.
-fn are_told(
-    rt: &HostRuntime,
+fn are_told<R: Threads + Wait + Sync>(
+    rt: &R,
+    alloc: Global,
     script: &str,
     transcript: &str,
     flaws: &[(&str, &str, u64, Flaw)],
 ) -> Result<(), Fail> {
-    let alloc = rt.alloc();
-    let (outcome, sink) = checked(alloc, script, transcript)?;
+    let (outcome, sink) = checked(rt, alloc, script, transcript)?;
     if outcome != Outcome::Fine || sink.bytes() != b"legal\n".as_slice() {
         return Err(Fail::new(String::from_str(alloc, transcript)?));
     }
     for (old, new, at, flaw) in flaws {
         let text = changed(alloc, transcript, old, new)?;
-        let (outcome, sink) = checked(alloc, script, text.as_str())?;
+        let (outcome, sink) = checked(rt, alloc, script, text.as_str())?;
         let word = match flaw {
             Flaw::Asked => "asked",
             Flaw::Reply => "reply",
@@ -156,15 +158,21 @@ fn are_told(
 
 #[test]
 fn a_changed_transcript_is_told_at_its_place(rt: HostRuntime) -> Result<(), Fail> {
-    are_told(&rt, FIRST_SCRIPT, FIRST_TRANSCRIPT, &FIRST_FLAWS)?;
-    are_told(&rt, RESAMPLERS, RESAMPLED, &EVENT_FLAWS)?;
-    are_told(&rt, TWO, TWO_TOLD, &SET_FLAWS)?;
-    are_told(&rt, STOPPED, STOPPED_TOLD, &LIMIT_FLAWS)
+    are_told(
+        &rt,
+        rt.alloc(),
+        FIRST_SCRIPT,
+        FIRST_TRANSCRIPT,
+        &FIRST_FLAWS,
+    )?;
+    are_told(&rt, rt.alloc(), RESAMPLERS, RESAMPLED, &EVENT_FLAWS)?;
+    are_told(&rt, rt.alloc(), TWO, TWO_TOLD, &SET_FLAWS)?;
+    are_told(&rt, rt.alloc(), STOPPED, STOPPED_TOLD, &LIMIT_FLAWS)
 }
 
 #[test]
 fn a_transcript_shows_a_choice(rt: HostRuntime) -> Result<(), Fail> {
-    are_told(&rt, TIED, TIED_TOLD, &CHOICE_FLAWS)
+    are_told(&rt, rt.alloc(), TIED, TIED_TOLD, &CHOICE_FLAWS)
 }
 
 // What stands behind a script of three lines, whose first bad line this is.
@@ -227,12 +235,12 @@ fn the_first_bad_line_of_both_is_named(rt: HostRuntime) -> Result<(), Fail> {
     let alloc = rt.alloc();
     let script = "irqboard 1\ncpus 1\nend\n";
     for (transcript, line, cause) in BAD_TRANSCRIPTS {
-        let (outcome, sink) = checked(alloc, script, transcript)?;
+        let (outcome, sink) = checked(&rt, alloc, script, transcript)?;
         let bad = outcome == Outcome::BadInput { line, cause };
         assert!(rt; bad && sink.bytes().is_empty(), "{transcript}");
     }
     for (input, line, cause) in BAD_INPUTS {
-        let (outcome, sink) = checked(alloc, input, "")?;
+        let (outcome, sink) = checked(&rt, alloc, input, "")?;
         let bad = outcome == Outcome::BadInput { line, cause };
         assert!(rt; bad && sink.bytes().is_empty(), "{input}");
     }
@@ -250,7 +258,7 @@ fn each_failing_call_of_a_check_is_a_fault(rt: HostRuntime) -> Result<(), Fail> 
         let Ok(mut sink) = MemSink::of(alloc, 10, 5, Vec::new(alloc)) else {
             return Err(Fail::from("no memory"));
         };
-        let outcome = ask(alloc, "check", &mut source, &mut sink)?;
+        let outcome = ask(&rt, alloc, "check", &mut source, &mut sink)?;
         let is_over = k >= 40;
         assert!(rt; (outcome == Outcome::Fine) == is_over, "read {k}");
         assert!(rt; (outcome == Outcome::ReadFault) != is_over, "read {k}");
@@ -263,7 +271,7 @@ fn each_failing_call_of_a_check_is_a_fault(rt: HostRuntime) -> Result<(), Fail> 
         let Ok(mut sink) = MemSink::of(alloc, 10, 5, [k].to_vec(alloc)?) else {
             return Err(Fail::from("no memory"));
         };
-        let outcome = ask(alloc, "check", &mut source, &mut sink)?;
+        let outcome = ask(&rt, alloc, "check", &mut source, &mut sink)?;
         let front = b"legal\n".get(..6.min(5 * k as usize));
         assert!(rt; (outcome == Outcome::WriteFault) == (k < 2), "write {k}");
         assert!(rt; Some(sink.bytes()) == front, "write {k}");

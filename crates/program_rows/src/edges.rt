@@ -71,7 +71,10 @@ fn other_words_are_refused(rt: HostRuntime) -> Result<(), Fail> {
         "replayx",
         "Replay",
         "replay replay",
-        "run",
+        "runs",
+        "Run",
+        "run run",
+        "run check",
         "checks",
         "chec",
         "check check",
@@ -84,7 +87,7 @@ fn other_words_are_refused(rt: HostRuntime) -> Result<(), Fail> {
             return Err(Fail::from("no memory"));
         };
         assert_eq!(rt;
-            ask(rt.alloc(), words, &mut source, &mut sink)?,
+            ask(&rt, rt.alloc(), words, &mut source, &mut sink)?,
             Outcome::Usage,
             "{words}"
         );
@@ -104,7 +107,7 @@ fn each_failing_call_is_a_fault(rt: HostRuntime) -> Result<(), Fail> {
         let Ok(mut sink) = MemSink::of(alloc, 1000, 1000, Vec::new(alloc)) else {
             return Err(Fail::from("no memory"));
         };
-        let outcome = ask(alloc, "replay", &mut source, &mut sink)?;
+        let outcome = ask(&rt, alloc, "replay", &mut source, &mut sink)?;
         if k < 15 {
             assert_eq!(rt; outcome, Outcome::ReadFault, "read {k}");
             assert!(rt; sink.bytes().is_empty(), "read {k}");
@@ -118,7 +121,7 @@ fn each_failing_call_is_a_fault(rt: HostRuntime) -> Result<(), Fail> {
         let Ok(mut sink) = MemSink::of(alloc, 1000, 5, [k].to_vec(alloc)?) else {
             return Err(Fail::from("no memory"));
         };
-        let outcome = ask(alloc, "replay", &mut source, &mut sink)?;
+        let outcome = ask(&rt, alloc, "replay", &mut source, &mut sink)?;
         if k < 34 {
             assert_eq!(rt; outcome, Outcome::WriteFault, "write {k}");
             assert_eq!(rt;
@@ -138,13 +141,13 @@ fn each_failing_call_is_a_fault(rt: HostRuntime) -> Result<(), Fail> {
 fn an_input_has_a_limit(rt: HostRuntime) -> Result<(), Fail> {
     let mut input = Vec::new(rt.alloc());
     input.resize(16_777_216, b'#')?;
-    let (outcome, _) = replayed(rt.alloc(), input)?;
+    let (outcome, _) = replayed(&rt, rt.alloc(), input)?;
     let line = 1;
     let cause = LineCause::Cut;
     assert_eq!(rt; outcome, Outcome::BadInput { line, cause });
     let mut input = Vec::new(rt.alloc());
     input.resize(16_777_217, b'#')?;
-    let (outcome, sink) = replayed(rt.alloc(), input)?;
+    let (outcome, sink) = replayed(&rt, rt.alloc(), input)?;
     assert_eq!(rt; outcome, Outcome::TooLong { bytes: 16_777_217 });
     assert!(rt; sink.bytes().is_empty());
     Ok(())
@@ -162,7 +165,7 @@ fn script_of(rt: &HostRuntime, count: u32) -> Result<Vec<u8>, Fail> {
 
 #[test]
 fn ample_memory_is_enough(rt: HostRuntime) -> Result<(), Fail> {
-    let (outcome, sink) = replayed(rt.alloc(), script_of(&rt, 20_000)?)?;
+    let (outcome, sink) = replayed(&rt, rt.alloc(), script_of(&rt, 20_000)?)?;
     assert_eq!(rt; outcome, Outcome::Fine);
     assert!(rt;
         sink.bytes()

@@ -1,7 +1,9 @@
 //! Runs of the top call over ends in memory.
 use io_edge::{MemSink, MemSource, OpenGate, Word};
-use irqboard::{Outcome, irqboard};
+use irqboard::{Bench, Outcome, irqboard};
 use std::alloc::{AllocError, Global};
+use std::sync::Wait;
+use std::thread::Threads;
 
 /// Row by row the script of the first transcript, and that transcript.
 pub const FIRST_SCRIPT: &str =
@@ -29,18 +31,29 @@ pub fn words(alloc: Global, line: &str) -> Result<Vec<Word>, AllocError> {
 }
 
 /// Asks the top call for these words over these ends.
-pub fn ask(
+pub fn ask<R: Threads + Wait + Sync>(
+    rt: &R,
     alloc: Global,
     line: &str,
     source: &mut MemSource,
     sink: &mut MemSink,
 ) -> Result<Outcome, AllocError> {
     let words = words(alloc, line)?;
-    Ok(irqboard(alloc, words.as_slice(), source, sink, &OpenGate))
+    let mut bench = Bench::empty();
+    Ok(irqboard(
+        rt,
+        alloc,
+        words.as_slice(),
+        source,
+        sink,
+        &OpenGate,
+        &mut bench,
+    ))
 }
 
 /// Asks for that one word over the input, and gives the answer, and all that was written.
-pub fn answered(
+pub fn answered<R: Threads + Wait + Sync>(
+    rt: &R,
     alloc: Global,
     word: &str,
     input: Vec<u8>,
@@ -49,35 +62,41 @@ pub fn answered(
     let Ok(mut sink) = MemSink::of(alloc, 1 << 20, 4096, Vec::new(alloc)) else {
         return Err(AllocError);
     };
-    let outcome = ask(alloc, word, &mut source, &mut sink)?;
+    let outcome = ask(rt, alloc, word, &mut source, &mut sink)?;
     Ok((outcome, sink))
 }
 
 /// Replays the input.
-pub fn replayed(alloc: Global, input: Vec<u8>) -> Result<(Outcome, MemSink), AllocError> {
-    answered(alloc, "replay", input)
+pub fn replayed<R: Threads + Wait + Sync>(
+    rt: &R,
+    alloc: Global,
+    input: Vec<u8>,
+) -> Result<(Outcome, MemSink), AllocError> {
+    answered(rt, alloc, "replay", input)
 }
 
 /// Checks the transcript behind the script.
-pub fn checked(
+pub fn checked<R: Threads + Wait + Sync>(
+    rt: &R,
     alloc: Global,
     script: &str,
     transcript: &str,
 ) -> Result<(Outcome, MemSink), AllocError> {
     let mut input = script.as_bytes().to_vec(alloc)?;
     input.extend_from_slice(transcript.as_bytes())?;
-    answered(alloc, "check", input)
+    answered(rt, alloc, "check", input)
 }
 
 /// Whether a replay of the script writes the transcript and ends so, and a check of both says that it is legal.
-pub fn is_run(
+pub fn is_run<R: Threads + Wait + Sync>(
+    rt: &R,
     alloc: Global,
     script: &str,
     transcript: &str,
     wanted: Outcome,
 ) -> Result<bool, AllocError> {
-    let (outcome, sink) = replayed(alloc, script.as_bytes().to_vec(alloc)?)?;
-    let (verdict, line) = checked(alloc, script, transcript)?;
+    let (outcome, sink) = replayed(rt, alloc, script.as_bytes().to_vec(alloc)?)?;
+    let (verdict, line) = checked(rt, alloc, script, transcript)?;
     Ok(
         outcome == wanted
             && sink.bytes() == transcript.as_bytes()

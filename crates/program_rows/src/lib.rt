@@ -8,7 +8,11 @@ mod edges;
 #[cfg(test)]
 mod ends;
 #[cfg(test)]
+mod lives;
+#[cfg(test)]
 mod makings;
+#[cfg(test)]
+mod meeting;
 #[cfg(test)]
 mod replays;
 #[cfg(test)]

@@ -3,7 +3,9 @@ use crate::ends::{answered, ask, replayed};
 use io_edge::{MemSink, MemSource};
 use irqboard::Outcome;
 use std::alloc::Global;
+use std::sync::Wait;
 use std::test::Fail;
+use std::thread::Threads;
 
 // The words, the input, and all that is written.
 const MADE: [(&str, &str); 3] = [
@@ -22,7 +24,8 @@ const MADE: [(&str, &str); 3] = [
 ];
 
 // What these words write, with a source that fails its first read: they read nothing.
-fn made(
+fn made<R: Threads + Wait + Sync>(
+    rt: &R,
     alloc: Global,
     line: &str,
     room: usize,
@@ -32,7 +35,7 @@ fn made(
     let Ok(mut sink) = MemSink::of(alloc, room, 100, fails) else {
         return Err(Fail::from("no memory"));
     };
-    let outcome = ask(alloc, line, &mut source, &mut sink)?;
+    let outcome = ask(rt, alloc, line, &mut source, &mut sink)?;
     Ok((outcome, sink))
 }
 
@@ -40,7 +43,7 @@ fn made(
 fn texts_are_made_of_three_numbers(rt: HostRuntime) -> Result<(), Fail> {
     let alloc = rt.alloc();
     for (line, text) in MADE {
-        let (outcome, sink) = made(alloc, line, 4096, Vec::new(alloc))?;
+        let (outcome, sink) = made(&rt, alloc, line, 4096, Vec::new(alloc))?;
         assert!(rt;
             outcome == Outcome::Fine && sink.bytes() == text.as_bytes(),
             "{line}"
@@ -78,7 +81,7 @@ const NONE: [&str; 21] = [
 fn numbers_that_are_not_such_are_refused(rt: HostRuntime) -> Result<(), Fail> {
     let alloc = rt.alloc();
     for line in NONE {
-        let (outcome, sink) = made(alloc, line, 4096, Vec::new(alloc))?;
+        let (outcome, sink) = made(&rt, alloc, line, 4096, Vec::new(alloc))?;
         assert!(rt;
             outcome == Outcome::Usage && sink.bytes().is_empty(),
             "{line}"
@@ -91,9 +94,9 @@ fn numbers_that_are_not_such_are_refused(rt: HostRuntime) -> Result<(), Fail> {
 #[test]
 fn a_sink_that_fails_keeps_a_front(rt: HostRuntime) -> Result<(), Fail> {
     let alloc = rt.alloc();
-    let (outcome, sink) = made(alloc, "sum 1 0 1", 4096, [0].to_vec(alloc)?)?;
+    let (outcome, sink) = made(&rt, alloc, "sum 1 0 1", 4096, [0].to_vec(alloc)?)?;
     assert!(rt; outcome == Outcome::WriteFault && sink.bytes().is_empty());
-    let (outcome, sink) = made(alloc, "gen 1 0 1", 150, Vec::new(alloc))?;
+    let (outcome, sink) = made(&rt, alloc, "gen 1 0 1", 150, Vec::new(alloc))?;
     let (_, text) = MADE[0];
     assert!(rt; outcome == Outcome::WriteFault && Some(sink.bytes()) == text.as_bytes().get(..150));
     Ok(())
@@ -103,12 +106,12 @@ fn a_sink_that_fails_keeps_a_front(rt: HostRuntime) -> Result<(), Fail> {
 #[test]
 fn a_storm_is_replayed_and_checked(rt: HostRuntime) -> Result<(), Fail> {
     let alloc = rt.alloc();
-    let (made_so, script) = answered(alloc, "gen 3 2000 4", Vec::new(alloc))?;
-    let (replayed_so, transcript) = replayed(alloc, script.bytes().to_vec(alloc)?)?;
+    let (made_so, script) = answered(&rt, alloc, "gen 3 2000 4", Vec::new(alloc))?;
+    let (replayed_so, transcript) = replayed(&rt, alloc, script.bytes().to_vec(alloc)?)?;
     let mut both = script.bytes().to_vec(alloc)?;
     both.extend_from_slice(transcript.bytes())?;
-    let (checked_so, verdict) = answered(alloc, "check", both)?;
-    let (summed_so, summary) = answered(alloc, "sum 3 2000 4", Vec::new(alloc))?;
+    let (checked_so, verdict) = answered(&rt, alloc, "check", both)?;
+    let (summed_so, summary) = answered(&rt, alloc, "sum 3 2000 4", Vec::new(alloc))?;
     assert!(rt; made_so == Outcome::Fine && replayed_so == Outcome::Fine);
     assert!(rt; checked_so == Outcome::Fine && summed_so == Outcome::Fine);
     assert!(rt; verdict.bytes() == b"legal\n".as_slice());

@@ -2,7 +2,10 @@
 use crate::ends::{FIRST_SCRIPT, FIRST_TRANSCRIPT, is_run, replayed};
 use irq_base::LineCause;
 use irqboard::Outcome;
+use std::alloc::Global;
+use std::sync::Wait;
 use std::test::Fail;
+use std::thread::Threads;
 
 // The entries of a transcript as `caller call -> reply`, and no events.
 const NOT_ENABLED: [&str; 3] = [
@@ -61,8 +64,11 @@ const PORTS: [&str; 14] = [
 ];
 
 // Whether a replay of the left halves of the entries writes those entries with their places, and a check of both says that it is legal.
-fn is_answered(rt: &HostRuntime, entries: &[&str]) -> Result<bool, Fail> {
-    let alloc = rt.alloc();
+fn is_answered<R: Threads + Wait + Sync>(
+    rt: &R,
+    alloc: Global,
+    entries: &[&str],
+) -> Result<bool, Fail> {
     let mut script = String::from_str(alloc, "irqboard 1\ncpus 1\n")?;
     let mut transcript = String::from_str(alloc, "transcript 1\n")?;
     for (place, entry) in entries.iter().enumerate() {
@@ -73,18 +79,30 @@ fn is_answered(rt: &HostRuntime, entries: &[&str]) -> Result<bool, Fail> {
     script.push_str("end\n")?;
     let count = entries.len();
     write!(transcript, "end {count}\n")?;
-    Ok(is_run(alloc, script.as_str(), transcript.as_str(), Outcome::Fine)?)
+    Ok(is_run(
+        rt,
+        alloc,
+        script.as_str(),
+        transcript.as_str(),
+        Outcome::Fine,
+    )?)
 }
 
 #[test]
 fn scripts_have_their_transcripts(rt: HostRuntime) -> Result<(), Fail> {
-    let first = is_run(rt.alloc(), FIRST_SCRIPT, FIRST_TRANSCRIPT, Outcome::Fine)?;
+    let first = is_run(
+        &rt,
+        rt.alloc(),
+        FIRST_SCRIPT,
+        FIRST_TRANSCRIPT,
+        Outcome::Fine,
+    )?;
     assert!(rt; first);
-    assert!(rt; is_answered(&rt, &NOT_ENABLED)?);
-    assert!(rt; is_answered(&rt, &MERGED)?);
-    assert!(rt; is_answered(&rt, &ILLEGAL_VECTOR)?);
-    assert!(rt; is_answered(&rt, &SPURIOUS)?);
-    assert!(rt; is_answered(&rt, &PORTS)?);
+    assert!(rt; is_answered(&rt, rt.alloc(), &NOT_ENABLED)?);
+    assert!(rt; is_answered(&rt, rt.alloc(), &MERGED)?);
+    assert!(rt; is_answered(&rt, rt.alloc(), &ILLEGAL_VECTOR)?);
+    assert!(rt; is_answered(&rt, rt.alloc(), &SPURIOUS)?);
+    assert!(rt; is_answered(&rt, rt.alloc(), &PORTS)?);
     Ok(())
 }
 
@@ -163,7 +181,7 @@ const BAD_SCRIPTS: [(&str, u32, LineCause); 28] = [
 #[test]
 fn the_first_bad_line_is_named(rt: HostRuntime) -> Result<(), Fail> {
     for (script, line, cause) in BAD_SCRIPTS {
-        let (outcome, sink) = replayed(rt.alloc(), script.as_bytes().to_vec(rt.alloc())?)?;
+        let (outcome, sink) = replayed(&rt, rt.alloc(), script.as_bytes().to_vec(rt.alloc())?)?;
         assert_eq!(rt; outcome, Outcome::BadInput { line, cause }, "{script}");
         assert!(rt; sink.bytes().is_empty(), "{script}");
     }

@@ -2,7 +2,10 @@
 use crate::ends::is_run;
 use irq_base::Spent;
 use irqboard::Outcome;
+use std::alloc::Global;
+use std::sync::Wait;
 use std::test::Fail;
+use std::thread::Threads;
 
 // The boundary of vectors.
 const VECTORS: &str =
@@ -84,8 +87,12 @@ const ROWS: [(u16, &str); 15] = [
 ];
 
 // Whether a replay of the calls of these lines writes these lines with their places, and a check of both says that it is legal.
-fn is_answered(rt: &HostRuntime, cpus: u16, lines: &str) -> Result<bool, Fail> {
-    let alloc = rt.alloc();
+fn is_answered<R: Threads + Wait + Sync>(
+    rt: &R,
+    alloc: Global,
+    cpus: u16,
+    lines: &str,
+) -> Result<bool, Fail> {
     let mut script = String::new(alloc);
     let mut transcript = String::from_str(alloc, "transcript 1\n")?;
     write!(script, "irqboard 1\ncpus {cpus}\n")?;
@@ -102,13 +109,19 @@ fn is_answered(rt: &HostRuntime, cpus: u16, lines: &str) -> Result<bool, Fail> {
     }
     script.push_str("end\n")?;
     write!(transcript, "end {place}\n")?;
-    Ok(is_run(alloc, script.as_str(), transcript.as_str(), Outcome::Fine)?)
+    Ok(is_run(
+        rt,
+        alloc,
+        script.as_str(),
+        transcript.as_str(),
+        Outcome::Fine,
+    )?)
 }
 
 #[test]
 fn calls_are_answered(rt: HostRuntime) -> Result<(), Fail> {
     for (cpus, lines) in ROWS {
-        assert!(rt; is_answered(&rt, cpus, lines)?, "{lines}");
+        assert!(rt; is_answered(&rt, rt.alloc(), cpus, lines)?, "{lines}");
     }
     Ok(())
 }
@@ -166,7 +179,10 @@ const RUNS: [(&str, &str, Outcome); 6] = [
 #[test]
 fn scripts_end_as_they_should(rt: HostRuntime) -> Result<(), Fail> {
     for (script, transcript, wanted) in RUNS {
-        assert!(rt; is_run(rt.alloc(), script, transcript, wanted)?, "{script}");
+        assert!(rt;
+            is_run(&rt, rt.alloc(), script, transcript, wanted)?,
+            "{script}"
+        );
     }
     Ok(())
 }

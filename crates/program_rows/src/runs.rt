@@ -2,15 +2,20 @@
 use crate::edges::USAGE;
 use crate::ends::{FIRST_SCRIPT, FIRST_TRANSCRIPT, texts};
 use io_edge::{MemSink, MemSource, OpenGate};
-use irqboard::asked;
+use irqboard::{Bench, asked};
+use std::alloc::Global;
 use std::env::Args;
 use std::io;
 use std::process::{ExitCode, Termination};
+use std::sync::Wait;
 use std::test::Fail;
+use std::thread::Threads;
 
 // The texts of a command line, the name first; the input; the exit status and the line.
-const RUNS: [(&str, &str, u8, &str); 7] = [
+const RUNS: [(&str, &str, u8, &str); 9] = [
     ("irqboard replay", FIRST_SCRIPT, 0, ""),
+    ("irqboard run", FIRST_SCRIPT, 0, ""),
+    ("run run", FIRST_SCRIPT, 0, ""),
     ("replay replay", FIRST_SCRIPT, 0, ""),
     ("replay", FIRST_SCRIPT, 1, USAGE),
     ("irqboard", FIRST_SCRIPT, 1, USAGE),
@@ -26,15 +31,15 @@ const RUNS: [(&str, &str, u8, &str); 7] = [
 
 // Runs the program over these texts and this input, and tells whether it ended with that status, said what is wanted, and wrote the
 // transcript of the first script where the status is 0, else nothing. The writes of standard error whose numbers are named fail.
-fn ends_so(
-    rt: &HostRuntime,
+fn ends_so<R: Threads + Wait + Sync + Eprint>(
+    rt: &R,
+    alloc: Global,
     texts: io::Result<Args>,
     script: &str,
     fails: Vec<u64>,
     status: u8,
     said: &str,
 ) -> Result<bool, Fail> {
-    let alloc = rt.alloc();
     let mut source = MemSource::of(script.as_bytes().to_vec(alloc)?, 7, Vec::new(alloc));
     let Ok(mut sink) = MemSink::of(alloc, 1000, 5, Vec::new(alloc)) else {
         return Err(Fail::from("no memory"));
@@ -42,7 +47,17 @@ fn ends_so(
     let Ok(mut errors) = MemSink::of(alloc, 1000, 50, fails) else {
         return Err(Fail::from("no memory"));
     };
-    let ended = asked(alloc, texts, &mut source, &mut sink, &OpenGate).said(&mut errors);
+    let mut bench = Bench::empty();
+    let ended = asked(
+        rt,
+        alloc,
+        texts,
+        &mut source,
+        &mut sink,
+        &OpenGate,
+        &mut bench,
+    )
+    .said(&mut errors);
     let written = if status == 0 { FIRST_TRANSCRIPT } else { "" };
     Ok(
         ended.report(rt) == ExitCode::from(status)
@@ -61,7 +76,15 @@ fn runs_end_as_the_answer_is(rt: HostRuntime) -> Result<(), Fail> {
             whole.push('\n')?;
         }
         assert!(rt;
-            ends_so(&rt, args, script, Vec::new(alloc), status, whole.as_str())?,
+            ends_so(
+                &rt,
+                alloc,
+                args,
+                script,
+                Vec::new(alloc),
+                status,
+                whole.as_str()
+            )?,
             "{line}"
         );
     }
@@ -77,7 +100,7 @@ fn a_failing_standard_error_changes_no_status(rt: HostRuntime) -> Result<(), Fai
         let args = Ok(texts(alloc, "irqboard")?.into_iter());
         let fails = [k as u64].to_vec(alloc)?;
         assert!(rt;
-            ends_so(&rt, args, "", fails, 1, &USAGE[..*kept])?,
+            ends_so(&rt, alloc, args, "", fails, 1, &USAGE[..*kept])?,
             "write {k}"
         );
     }
@@ -91,6 +114,7 @@ fn texts_that_are_not_to_be_had_are_named(rt: HostRuntime) -> Result<(), Fail> {
     assert!(rt;
         ends_so(
             &rt,
+            alloc,
             wanting,
             FIRST_SCRIPT,
             Vec::new(alloc),
@@ -104,6 +128,7 @@ fn texts_that_are_not_to_be_had_are_named(rt: HostRuntime) -> Result<(), Fail> {
     assert!(rt;
         ends_so(
             &rt,
+            alloc,
             no_text,
             FIRST_SCRIPT,
             Vec::new(alloc),
