@@ -1,9 +1,10 @@
 // Runs of small scripts.
 
 use crate::gates::Meeting;
-use crate::runs::{Ran, run_text};
+use crate::runs::{Ran, run_bytes};
 use io_edge::OpenGate;
-use irq_base::Spent;
+use irq_base::{NoMemory, Spent};
+use workload_gen::generate;
 
 // Two processors that meet, and a device that reroutes meanwhile.
 const MEETING: &str = "irqboard 1
@@ -20,7 +21,7 @@ end
 #[test]
 fn actors_run_at_the_same_time(rt: HostRuntime) {
     let gate = Meeting::new();
-    let ran = run_text(&rt, rt.alloc(), MEETING, &gate);
+    let ran = run_bytes(&rt, rt.alloc(), MEETING.as_bytes(), &gate);
     assert!(rt;
         ran == Some(Ran {
             entries: 5,
@@ -46,7 +47,7 @@ end
 
 #[test]
 fn a_limit_stops_a_run(rt: HostRuntime) {
-    let ran = run_text(&rt, rt.alloc(), LIMITED, &OpenGate);
+    let ran = run_bytes(&rt, rt.alloc(), LIMITED.as_bytes(), &OpenGate);
     let spent = Some(Spent::Calls { at: 3 });
     assert!(rt;
         ran == Some(Ran {
@@ -61,7 +62,12 @@ fn a_limit_stops_a_run(rt: HostRuntime) {
 // Without an actor there is nothing to run.
 #[test]
 fn no_actor_runs(rt: HostRuntime) {
-    let ran = run_text(&rt, rt.alloc(), "irqboard 1\ncpus 1\nend\n", &OpenGate);
+    let ran = run_bytes(
+        &rt,
+        rt.alloc(),
+        b"irqboard 1\ncpus 1\nend\n".as_slice(),
+        &OpenGate,
+    );
     assert!(rt;
         ran == Some(Ran {
             entries: 0,
@@ -70,4 +76,20 @@ fn no_actor_runs(rt: HostRuntime) {
             legal: true
         })
     );
+}
+
+// A generated storm of four processors and two devices, each on a thread of its own: 13 calls set the board up.
+#[test]
+fn a_storm_is_run_legally(rt: HostRuntime) -> Result<(), NoMemory> {
+    let storm = generate(rt.alloc(), 3, 20_000, 4)?;
+    let ran = run_bytes(&rt, rt.alloc(), storm.as_slice(), &OpenGate);
+    assert!(rt;
+        ran == Some(Ran {
+            entries: 20_013,
+            closed: Some(20_013),
+            spent: None,
+            legal: true
+        })
+    );
+    Ok(())
 }

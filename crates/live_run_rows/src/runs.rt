@@ -21,8 +21,7 @@ pub(crate) struct Ran {
 }
 
 // The script, if it is one.
-fn script_of(alloc: Global, text: &str) -> Option<Script> {
-    let bytes = text.as_bytes();
+fn script_of(alloc: Global, bytes: &[u8]) -> Option<Script> {
     if bytes.len() >= 0xffff_ffff {
         return None;
     }
@@ -38,13 +37,13 @@ fn is_legal(alloc: Global, script: &Script, run: &Transcript) -> bool {
 }
 
 /// What the run of a script comes to, if it is one.
-pub(crate) fn run_text<R: Threads + Wait + Sync, G: Gate>(
+pub(crate) fn run_bytes<R: Threads + Wait + Sync, G: Gate>(
     rt: &R,
     alloc: Global,
-    text: &str,
+    bytes: &[u8],
     gate: &G,
 ) -> Option<Ran> {
-    let script = script_of(alloc, text)?;
+    let script = script_of(alloc, bytes)?;
     let Ok((board, mut desk)) = LiveBoard::power_on(alloc, &script.shape()) else {
         return None;
     };
