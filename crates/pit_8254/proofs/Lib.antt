@@ -1,0 +1,5 @@
+pub mod Clocking
+pub mod Asking
+pub mod Advancing
+pub mod Standing
+pub mod Performing
