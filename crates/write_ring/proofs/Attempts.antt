@@ -1,5 +1,5 @@
 -- What an attempt comes to, and what tries that follow each other come to
-use Rattle.std.proofs.Common.{◌≡◌, ℕ, zero, suc, ◌<◌, ◌≤◌, ◌^◌, ◌||◌, Bool, true, false, List, [], ◌∷◌, ◌++◌, length, refl, sym, ap, ◌∙◌, subst, arith}
+use Rattle.std.proofs.Common.{◌≡◌, ℕ, zero, suc, ◌≤◌, ◌^◌, ◌||◌, true, false, List, [], length, refl, sym, ap, ◌∙◌, subst, arith}
 use Rattle.std.specs.Prelude.{Some, None, IfSome, is_some, nat_eq, option_map}
 use Rattle.std.specs.declared.option.Option.{Option}
 use Rattle.turn_book.specs.declared.view.Held.{Held}

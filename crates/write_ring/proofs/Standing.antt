@@ -1,6 +1,6 @@
 -- What stands of the state that a seat's list leaves, and what an exchange of the front makes of the queue in hand
 use Rattle.std.proofs.Common.{◌≡◌, ℕ, ◌+◌, ◌<◌, ◌≤◌, ◌^◌, Bool, true, false, List, [], ◌∷◌, ◌++◌, length, refl, sym, ap, ◌∙◌, subst, arith}
-use Rattle.std.specs.Prelude.{Some, None, IfSome, IfOk, IfErr, Ok, Err, is_some, nat_eq, slice_get, if◌then◌else◌}
+use Rattle.std.specs.Prelude.{Some, None, IfSome, IfOk, Ok, Err, is_some, nat_eq, slice_get, if◌then◌else◌}
 use Rattle.std.specs.declared.option.Option.{Option}
 use Rattle.std.specs.declared.result.Result.{Result}
 use Rattle.turn_book.specs.declared.view.Front.{Front}

@@ -1,6 +1,6 @@
 -- The laws of a ring's machine
-use Rattle.std.proofs.Common.{◌≡◌, ℕ, zero, suc, ◌+◌, ◌<◌, ◌≤◌, ◌^◌, List, [], ◌∷◌, length, Bool, true, false, refl, sym, ap, ◌∙◌, subst, arith}
-use Rattle.std.specs.Prelude.{Some, slice_get, nat_eq, count_by}
+use Rattle.std.proofs.Common.{◌≡◌, ℕ, zero, suc, ◌+◌, ◌≤◌, ◌^◌, List, [], ◌∷◌, length, true, false, refl, sym, ap, ◌∙◌, subst, arith}
+use Rattle.std.specs.Prelude.{slice_get, count_by}
 use Rattle.turn_book.specs.Histories.{Runs}
 use Rattle.turn_book.specs.Laws.{DependsOnReach, IsBounded}
 use Rattle.turn_book.proofs.Lists.{some_is}

@@ -1,5 +1,5 @@
 -- A queue with room for 128 writes: what it answers, and what puts and takes make of it (this project's own rule)
-use Rattle.std.specs.Prelude.{◌≡◌, ℕ, ◌+◌, List, [], ◌∷◌, ◌++◌, length, nat_eq, if◌then◌else◌}
+use Rattle.std.specs.Prelude.{◌≡◌, ◌+◌, List, [], ◌∷◌, ◌++◌, length, nat_eq, if◌then◌else◌}
 use Rattle.write_ring.specs.declared.machine.RingEntry.{RingEntry}
 use Rattle.write_ring.specs.declared.machine.RingEntry.TheVariants.{Put, Take}
 use Rattle.write_ring.specs.declared.queue.RingQueue.{RingQueue}

@@ -16,7 +16,7 @@ use Rattle.write_ring.specs.declared.stop.RingSpent.{RingSpent}
 use Rattle.write_ring.specs.declared.stop.RingStop.{RingStop}
 use Rattle.write_ring.specs.declared.stop.RingStop.TheVariants.{Busy, Spent}
 use Rattle.write_ring.specs.Queue.{queue_after, Answers}
-use Rattle.write_ring.specs.Ring.{IsRingHistory, pass_of}
+use Rattle.write_ring.specs.Ring.{pass_of}
 
 -- what a seat at the ring's book knows
 abbrev pub Seen : Type 0

@@ -1,5 +1,5 @@
 -- The queue in hand, and what an exchange of the front makes of it
-use Rattle.std.specs.Prelude.{◌≡◌, ◌<◌, ◌^◌, List, [], ◌∷◌, ◌++◌, Some}
+use Rattle.std.specs.Prelude.{◌≡◌, ◌<◌, ◌^◌, [], ◌∷◌, ◌++◌, Some}
 use Rattle.turn_book.specs.Hands.{held_at}
 use Rattle.turn_book.specs.Views.{IsLegal, HoldsRight}
 use Rattle.write_ring.specs.declared.machine.RingEntry.{RingEntry}

@@ -1,4 +1,4 @@
-use Rattle.std.proofs.Common.{◌≡◌, Some, is_some, refl, sym, ap, ◌∙◌, subst, arith}
+use Rattle.std.proofs.Common.{◌≡◌, is_some, sym, ap, ◌∙◌, subst, arith}
 use Rattle.turn_book.specs.Hands.{held_at, slot_at}
 use Rattle.turn_book.specs.Histories.{IsPrefix}
 use Rattle.turn_book.specs.Views.{AddsNoneOfOwn}
