@@ -1,8 +1,10 @@
 -- What an attempt comes to, and what tries that follow each other come to
-use Rattle.std.proofs.Common.{◌≡◌, ℕ, zero, suc, ◌≤◌, ◌^◌, ◌||◌, true, false, List, [], length, refl, sym, ap, ◌∙◌, subst, arith}
-use Rattle.std.specs.Prelude.{Some, None, IfSome, is_some, nat_eq, option_map}
+use Rattle.std.proofs.Common.{◌≡◌, ℕ, zero, suc, ◌<◌, ◌≤◌, ◌^◌, ◌||◌, Bool, true, false, List, [], ◌∷◌, ◌++◌, length, refl, sym, ap, ◌∙◌, subst, arith, inl, inr}
+use Rattle.std.specs.Prelude.{Some, None, IfSome, IfErr, Ok, Err, is_some, nat_eq, option_map}
 use Rattle.std.specs.declared.option.Option.{Option}
+use Rattle.std.specs.declared.result.Result.{Result}
 use Rattle.turn_book.specs.declared.view.Held.{Held}
+use Rattle.turn_book.specs.declared.view.Miss.{Miss}
 use Rattle.turn_book.specs.Hands.{held_at, held_without}
 use Rattle.turn_book.specs.Histories.{IsPrefix, is_in}
 use Rattle.turn_book.specs.Views.{AddsNoneOfOwn}
@@ -11,9 +13,11 @@ use Rattle.turn_book.proofs.Lists.{has, prefix-trans}
 use Rattle.write_ring.specs.declared.machine.RingEntry.{RingEntry}
 use Rattle.write_ring.specs.declared.queue.RingQueue.{RingQueue}
 use Rattle.write_ring.specs.declared.stop.RingSpent.{RingSpent}
+use Rattle.write_ring.specs.declared.stop.RingStop.{RingStop}
+use Rattle.write_ring.specs.declared.stop.RingStop.TheVariants.{Busy, Spent}
 use Rattle.write_ring.specs.Made.{numbers_of}
 use Rattle.write_ring.specs.Ring.{pass_of}
-use Rattle.write_ring.specs.Seen.{Seen, entries_by, IsEntered, IsSpent}
+use Rattle.write_ring.specs.Seen.{Seen, entries_by, IsEntered, IsSpent, IsStopped, GaveWay}
 use Rattle.write_ring.specs.Standing.{IsRight, HasEntered}
 use Rattle.write_ring.proofs.Standing.{low_seen}
 
@@ -47,6 +51,18 @@ own_behind n m first before now same own kept = subst (λ k. entries_by k now �
 -- a history that is as long as it can be
 pub spent_at : (w : Seen) (spent : RingSpent) → IsRight w → spent.at ≡ length w.seen → 2 ^ 40 ≤ spent.at → IsSpent spent w.seen
 spent_at w spent right counted high = (let low = low_seen w right in (omega arith, omega arith))
+
+-- ---- an attempt that gave way
+
+pub gave_way : (v u w : Seen) (m : Miss) → u.misses ≡ v.misses → w.misses ≡ u.misses ++ m ∷ [] → GaveWay v w
+gave_way v u w m same missed = inr (m, missed ∙ ap (λ l. l ++ m ∷ []) same)
+
+-- why an attempt was not answered, from before it took the turn (v) until it has given it back (x)
+pub stopped_along : {A : Type 0} (v u w x : Seen) (r : Result A RingStop) → u.found ≡ v.found → u.misses ≡ v.misses → x.found ≡ w.found → x.misses ≡ w.misses → x.seen ≡ w.seen → IfErr r (λ stop. IsStopped stop u w) → IfErr r (λ stop. IsStopped stop v x)
+stopped_along v u w x (Ok a) found misses found' misses' seen is = tt
+stopped_along v u w x (Err Busy) found misses found' misses' seen (inl e) = inl (found' ∙ e ∙ ap (λ l. l ++ 0 ∷ []) found)
+stopped_along v u w x (Err Busy) found misses found' misses' seen (inr (m, e)) = inr (m, misses' ∙ e ∙ ap (λ l. l ++ m ∷ []) misses)
+stopped_along v u w x (Err (Spent spent)) found misses found' misses' seen (long, at) = (ap length seen ∙ long, at)
 
 -- ---- the queue in hand
 

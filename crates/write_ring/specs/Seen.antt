@@ -1,7 +1,8 @@
 -- What a pass, a note and a desk of a ring know (this project's own rule). What each has seen is the list of its seat's view, which
 -- the book maintains
-use Rattle.std.specs.Prelude.{◌≡◌, ℕ, ◌^◌, List, [], ◌∷◌, ◌++◌, length}
+use Rattle.std.specs.Prelude.{◌≡◌, ℕ, ◌^◌, List, [], ◌∷◌, ◌++◌, ◌⊎◌, length}
 use Rattle.turn_book.specs.declared.view.Ended.{Ended}
+use Rattle.turn_book.specs.declared.view.Miss.{Miss}
 use Rattle.turn_book.specs.declared.view.View.{View}
 use Rattle.turn_book.specs.Histories.{IsPrefix, entries_of}
 use Rattle.turn_book.specs.Views.{view_of}
@@ -16,13 +17,16 @@ use Rattle.write_ring.specs.declared.stop.RingSpent.{RingSpent}
 use Rattle.write_ring.specs.declared.stop.RingStop.{RingStop}
 use Rattle.write_ring.specs.declared.stop.RingStop.TheVariants.{Busy, Spent}
 use Rattle.write_ring.specs.Queue.{queue_after, Answers}
-use Rattle.write_ring.specs.Ring.{pass_of}
+use Rattle.write_ring.specs.Ring.{IsRingHistory, pass_of}
 
 -- what a seat at the ring's book knows
 abbrev pub Seen : Type 0
 Seen = View RingState RingEntry RingQueue
 
 -- ---- what each has seen
+
+abbrev pub pass_view : RingPass → Seen
+pass_view pass = view_of pass.pen.seat
 
 abbrev pub pass_seen : RingPass → List RingEntry
 pass_seen pass = (view_of pass.pen.seat).seen
@@ -63,10 +67,14 @@ pub record IsEntered (e : RingEntry) (before now : List RingEntry) : Type 0 wher
 abbrev pub IsSpent : RingSpent → List RingEntry → Type 0
 IsSpent spent now = (length now ≡ 2 ^ 40) × (spent.at ≡ 2 ^ 40)
 
--- an attempt that was not answered tells why: it is busy, or the list has as many entries as a history can have
-abbrev pub IsStopped : RingStop → List RingEntry → Type 0
-IsStopped Busy now = Unit
-IsStopped (Spent spent) now = IsSpent spent now
+-- an attempt gave way: it found the turn of the queue, which is part 0, taken, or it lost its exchange of the front
+abbrev pub GaveWay : Seen → Seen → Type 0
+GaveWay v w = (w.found ≡ v.found ++ 0 ∷ []) ⊎ ((m : Miss) × (w.misses ≡ v.misses ++ m ∷ []))
+
+-- why an attempt was not answered: it gave way, or the list has as many entries as a history can have
+abbrev pub IsStopped : RingStop → Seen → Seen → Type 0
+IsStopped Busy v w = GaveWay v w
+IsStopped (Spent spent) v w = IsSpent spent w.seen
 
 -- the entries with which a pass ended
 abbrev pub end_of : RingPass → Ended RingEntry

@@ -36,7 +36,7 @@ pub(crate) fn put_held(
     ensures place { SamePlace (view_of pen.old.seat) (view_of pen.new.seat) }
     ensures seen { IsPrefix (view_of pen.old.seat).seen (view_of pen.new.seat).seen }
     ensures legal { IsRight (view_of pen.new.seat) }
-    ensures stopped { IfErr result (λ stop. IsStopped stop (view_of pen.new.seat).seen) }
+    ensures stopped { IfErr result (λ stop. IsStopped stop (view_of pen.old.seat) (view_of pen.new.seat)) }
     ensures own { OnErr result (entries_by number (view_of pen.new.seat).seen ≡ entries_by number (view_of pen.old.seat).seen) }
     ensures entered { IfOk result (λ reply.
         IsEntered (entries.Put number write.now reply) (view_of pen.old.seat).seen (view_of pen.new.seat).seen) }
@@ -73,7 +73,7 @@ pub(crate) fn take_held(
     ensures place { SamePlace (view_of pen.old.seat) (view_of pen.new.seat) }
     ensures seen { IsPrefix (view_of pen.old.seat).seen (view_of pen.new.seat).seen }
     ensures legal { IsRight (view_of pen.new.seat) }
-    ensures stopped { IfErr result (λ stop. IsStopped stop (view_of pen.new.seat).seen) }
+    ensures stopped { IfErr result (λ stop. IsStopped stop (view_of pen.old.seat) (view_of pen.new.seat)) }
     ensures own { OnErr result (entries_by number (view_of pen.new.seat).seen ≡ entries_by number (view_of pen.old.seat).seen) }
     ensures entered { IfOk result (λ _.
         IsEntered (entries.Take number out.new.items) (view_of pen.old.seat).seen (view_of pen.new.seat).seen) }

@@ -1,5 +1,5 @@
 //! The exchange of the front by which an entry joins the history.
-ghost use Rattle.std.specs.Prelude.{◌≡◌, ◌<◌, ◌^◌, ℕ, true, is_some, IfOk, IfErr, Some};
+ghost use Rattle.std.specs.Prelude.{◌≡◌, ◌<◌, ◌^◌, ◌++◌, ◌∷◌, [], ℕ, true, is_some, IfOk, IfErr, Some};
 ghost use Rattle.turn_book.specs.Hands.{held_at};
 ghost use Rattle.turn_book.specs.Histories.{IsPrefix};
 ghost use Rattle.turn_book.specs.Plays.{IsLastLook};
@@ -29,6 +29,10 @@ pub(crate) fn enter<N: Entering<RingEntry>>(
     requires entry { MayEnter (entry_of asked.now) (view_of pen.old.seat) }
     ensures book { pen.new.seat.table_id ≡ pen.old.seat.table_id }
     ensures entered { IfOk result (λ _. HasEntered (entry_of asked.now) (view_of pen.old.seat) (view_of pen.new.seat)) }
+    ensures missed { IfErr result (λ now. (view_of pen.new.seat).misses ≡ (view_of pen.old.seat).misses ++ record {
+      had = had;
+      found = now;
+    } ∷ []) }
     ensures lost { IfErr result (λ _. (view_of pen.new.seat).held ≡ (view_of pen.old.seat).held) }
     ensures own { IfErr result (λ _. AddsNoneOfOwn pass_of (view_of pen.old.seat) (view_of pen.new.seat)) }
     ensures seen { IsPrefix (view_of pen.old.seat).seen (view_of pen.new.seat).seen }

@@ -3,7 +3,7 @@ ghost use Rattle.std.specs.Prelude.{◌≡◌, IfOk, IfErr, OnErr};
 ghost use Rattle.turn_book.specs.Histories.{IsPrefix};
 ghost use Rattle.write_ring.specs.declared.machine.RingEntry.TheVariants as entries;
 ghost use Rattle.write_ring.specs.Ring.{IsRingHistory};
-ghost use Rattle.write_ring.specs.Seen.{pass_seen, IsPassOf, entries_by, IsEntered, IsSpent, IsStopped};
+ghost use Rattle.write_ring.specs.Seen.{pass_view, pass_seen, IsPassOf, entries_by, IsEntered, IsSpent, IsStopped};
 
 use crate::attempting::put_held;
 use crate::pass::RingPass;
@@ -17,8 +17,8 @@ impl WriteRing {
     /// One attempt to put a write, which waits for nobody.
     ///
     /// `Ok(Placed { at })`: the write stands last, and `at` were placed before it. `Ok(Full)`: 128 writes stood, and it was not
-    /// placed. Both have an entry in the ring's history. `Err(Busy)`: another call was under way. `Err(Spent(_))`: the history has
-    /// 2^40 entries. Neither has an entry, and nothing was placed.
+    /// placed. Both have an entry in the ring's history. `Err(Busy)`: the turn of the queue was found taken, or the exchange of
+    /// the front was lost. `Err(Spent(_))`: the history has 2^40 entries. Neither has an entry, and nothing was placed.
     ///
     /// The pass is of this ring.
     pub fn try_put(&self, pass: &mut RingPass, write: &RingWrite) -> Result<RingPut, RingStop>
@@ -29,7 +29,7 @@ impl WriteRing {
         ensures legal { IsRingHistory (pass_seen pass.new) }
         ensures entered { IfOk result (λ reply.
             IsEntered (entries.Put pass.old.number write.now reply) (pass_seen pass.old) (pass_seen pass.new)) }
-        ensures stopped { IfErr result (λ stop. IsStopped stop (pass_seen pass.new)) }
+        ensures stopped { IfErr result (λ stop. IsStopped stop (pass_view pass.old) (pass_view pass.new)) }
         ensures own { OnErr result (entries_by pass.old.number (pass_seen pass.new) ≡ entries_by pass.old.number (pass_seen pass.old)) }
     {
         match self.book.take(&mut pass.pen, 0) {

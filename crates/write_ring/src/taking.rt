@@ -3,7 +3,7 @@ ghost use Rattle.std.specs.Prelude.{◌≡◌, [], length, IfOk, IfErr, OnErr};
 ghost use Rattle.turn_book.specs.Histories.{IsPrefix};
 ghost use Rattle.write_ring.specs.declared.machine.RingEntry.TheVariants as entries;
 ghost use Rattle.write_ring.specs.Ring.{IsRingHistory};
-ghost use Rattle.write_ring.specs.Seen.{pass_seen, IsPassOf, entries_by, IsEntered, IsSpent, IsStopped};
+ghost use Rattle.write_ring.specs.Seen.{pass_view, pass_seen, IsPassOf, entries_by, IsEntered, IsSpent, IsStopped};
 
 use crate::attempting::take_held;
 use crate::pass::RingPass;
@@ -17,8 +17,8 @@ impl WriteRing {
     /// One attempt to take all writes, which waits for nobody.
     ///
     /// `Ok(n)`: the n writes that stood are in `out`, in their order, in place of what was there, and none stands in the ring; it
-    /// has an entry in the ring's history. `Err(Busy)`: another call was under way. `Err(Spent(_))`: the history has 2^40 entries.
-    /// Neither has an entry; the ring's writes stay, and `out` is empty.
+    /// has an entry in the ring's history. `Err(Busy)`: the turn of the queue was found taken, or the exchange of the front was
+    /// lost. `Err(Spent(_))`: the history has 2^40 entries. Neither has an entry; the ring's writes stay, and `out` is empty.
     ///
     /// The pass is of this ring.
     pub fn try_take(&self, pass: &mut RingPass, out: &mut RingWrites) -> Result<usize, RingStop>
@@ -31,7 +31,7 @@ impl WriteRing {
             IsEntered (entries.Take pass.old.number out.new.items) (pass_seen pass.old) (pass_seen pass.new)) }
         ensures count { IfOk result (λ n. n ≡ length out.new.items) }
         ensures nothing { OnErr result (out.new.items ≡ []) }
-        ensures stopped { IfErr result (λ stop. IsStopped stop (pass_seen pass.new)) }
+        ensures stopped { IfErr result (λ stop. IsStopped stop (pass_view pass.old) (pass_view pass.new)) }
         ensures own { OnErr result (entries_by pass.old.number (pass_seen pass.new) ≡ entries_by pass.old.number (pass_seen pass.old)) }
     {
         match self.book.take(&mut pass.pen, 0) {

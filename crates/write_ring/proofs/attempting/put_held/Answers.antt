@@ -1,4 +1,4 @@
-use Rattle.std.proofs.Common.{◌≡◌, ◌<◌, ◌^◌, is_some, sym, ap, ◌∙◌, subst, arith}
+use Rattle.std.proofs.Common.{◌≡◌, ◌<◌, ◌^◌, Some, is_some, refl, sym, ap, ◌∙◌, subst, arith}
 use Rattle.turn_book.specs.Hands.{held_at, slot_at}
 use Rattle.turn_book.specs.Histories.{IsPrefix}
 use Rattle.turn_book.specs.Views.{AddsNoneOfOwn}
@@ -8,7 +8,7 @@ use Rattle.write_ring.specs.Queue.{reply_of, queue_put}
 use Rattle.write_ring.specs.Ring.{pass_of}
 use Rattle.write_ring.specs.Seen.{Seen}
 use Rattle.write_ring.specs.Standing.{HasEntered}
-use Rattle.write_ring.proofs.Attempts.{entered_on, spent_at, all_in, one_in, mapped_in}
+use Rattle.write_ring.proofs.Attempts.{entered_on, gave_way, spent_at, all_in, one_in, mapped_in}
 use Rattle.write_ring.proofs.attempting.put_held.Goals as goal
 
 pub returns-then-had-ge-MOST-clause-stopped : goal.returns-then-had-ge-MOST-clause-stopped
@@ -53,3 +53,7 @@ returns-in-Ok-clause-entered c =
     entered_on v u w (Put c.args.number c.args.write.now c.reply_in_hand-reply.result) c.requires.caller
     (subst (λ (x : Seen). IsPrefix v.seen x.seen) view front.seen) (subst (λ (x : Seen). AddsNoneOfOwn pass_of v x) view front.own)
     (subst (HasEntered _ u) (sym c.put_in_hand.ensures.view) c.in-Ok.ensures.entered)
+
+pub returns-in-Err-clause-stopped : goal.returns-in-Err-clause-stopped
+returns-in-Err-clause-stopped c =
+    gave_way c.args.pen.now.seat.me.0 c.reply_in_hand-reply.new.pen.seat.me.0 c.enter.new.pen.seat.me.0 _ (ap (λ (x : Seen). x.misses) c.reply_in_hand-reply.ensures.view ∙ c.front-had.ensures.misses) c.in-Err.ensures.missed
