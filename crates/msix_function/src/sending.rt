@@ -55,7 +55,8 @@ impl<const N: usize> Function<N> {
         face: &mut F,
         events: &mut Events,
     ) -> Result<u32, Spent>
-        ensures { Operates F.Face (store offset value) (length (due (stored self.old offset value))) result face.old face.new self.old self.new }
+        ensures { Operates F.Face (store offset value) (length (due (stored self.old offset value))) result
+            face.old face.new self.old self.new }
     {
         self.write(offset, value);
         self.send_due(face, events)
@@ -69,7 +70,8 @@ impl<const N: usize> Function<N> {
         face: &mut F,
         events: &mut Events,
     ) -> Result<u32, Spent>
-        ensures { Operates F.Face (control enable mask) (length (due (controlled self.old enable mask))) result face.old face.new self.old self.new }
+        ensures { Operates F.Face (control enable mask) (length (due (controlled self.old enable mask))) result
+            face.old face.new self.old self.new }
     {
         self.set_bits(enable, mask);
         self.send_due(face, events)
@@ -102,7 +104,8 @@ impl<const N: usize> Function<N> {
     /// Nothing is done. Over every list of operations since power-on, the fires of an entry that were answered other than `Off` are
     /// as many as the messages sent for it, and those that merged, and one where it is pending.
     pub fn keeps_balance(&self)
-        ensures { (opening : Kept N) (operations : List Asked) (k : ℕ) → k < N → IsAtPowerOn opening → Lead opening operations self.now
+        ensures { (opening : Kept N) (operations : List Asked) (k : ℕ) → k < N → IsAtPowerOn opening
+            → Lead opening operations self.now
             → IsBalanced k operations self.now }
     {}
 }

@@ -13,14 +13,16 @@ use Rattle.write_ring.specs.Ring.{IsEmptyRing, IsRingStep, has_room, is_queue}
 pub one_step : (s : RingState) (e : RingEntry) (t u : RingState) → IsRingStep s e t → IsRingStep s e u → t ≡ u
 one_step s e t u (a, q, low, n) (a', q', low', n') = λ i. record { queue = (q ∙ sym q') i; entries = (n ∙ sym n') i }
 
-pub count_stays : (s : RingState) (e : RingEntry) (t : RingState) → IsRingStep s e t → length (t.queue ∷ []) ≡ length (s.queue ∷ [])
+pub count_stays : (s : RingState) (e : RingEntry) (t : RingState) → IsRingStep s e t
+    → length (t.queue ∷ []) ≡ length (s.queue ∷ [])
 count_stays s e t step = refl
 
 others-stay : (q r : RingQueue) (p : ℕ) → is_queue p ≡ false → slice_get (r ∷ []) p ≡ slice_get (q ∷ []) p
 others-stay q r zero h = absurd (let no : true ≡ false = h in cc)
 others-stay q r (suc p) h = refl
 
-pub unreached_stays : (s : RingState) (e : RingEntry) (t : RingState) (p : ℕ) → IsRingStep s e t → is_queue p ≡ false → slice_get (t.queue ∷ []) p ≡ slice_get (s.queue ∷ []) p
+pub unreached_stays : (s : RingState) (e : RingEntry) (t : RingState) (p : ℕ) → IsRingStep s e t → is_queue p ≡ false
+    → slice_get (t.queue ∷ []) p ≡ slice_get (s.queue ∷ []) p
 unreached_stays s e t p step h = others-stay s.queue t.queue p h
 
 pub depends_on_reach : DependsOnReach IsEmptyRing IsRingStep (λ (s : RingState). s.queue ∷ []) (λ s. []) (λ s e. is_queue) has_room
