@@ -36,6 +36,9 @@ zeros_16 k = zeros_at 16 k
 pub zeros_24 : (k : ℕ) → get_or {A = ℕ} (replicate 24 0) k 0 ≡ 0
 zeros_24 k = zeros_at 24 k
 
+pub zeros_4096 : (k : ℕ) → get_or {A = ℕ} (replicate 4096 0) k 0 ≡ 0
+zeros_4096 k = zeros_at 4096 k
+
 pub no_rows-kept : refusal_of [] ≡ None
 unfolding reasons_after
 no_rows-kept = refl

@@ -15,9 +15,7 @@ fn clear(words: &mut [u64])
     ensures long { length words.new ≡ length words.old }
     ensures zero { (k : ℕ) → slice_index words.new k ≡ 0 }
 {
-    for word in words.iter_mut() {
-        *word = 0;
-    }
+    words.fill(0);
 }
 
 /// That many words, all 0.
@@ -47,10 +45,27 @@ pub fn refill(
     ensures refusal { MatchResult result (λ _. refusal_of rows.now ≡ None) (λ r. refusal_of rows.now ≡ Some r) }
     ensures stands { OnOk result (Stands words.new pics.new ioapics.new rows.now) }
 {
+    clear(words);
+    fill_empty(words, pics, ioapics, rows)
+}
+
+// Makes words and pins that stand for none stand for the rows, unless these are refused.
+fn fill_empty(
+    words: &mut [u64],
+    pics: &mut [u16],
+    ioapics: &mut [u16],
+    rows: &Rows,
+) -> Result<(), Refusal>
+    requires long { length words.old ≡ 4096 }
+    requires pics { length pics.old ≡ 16 }
+    requires ioapics { length ioapics.old ≡ 24 }
+    requires none { Stands words.old pics.old ioapics.old [] }
+    ensures refusal { MatchResult result (λ _. refusal_of rows.now ≡ None) (λ r. refusal_of rows.now ≡ Some r) }
+    ensures stands { OnOk result (Stands words.new pics.new ioapics.new rows.now) }
+{
     if rows.len() > 4096 {
         return Err(Refusal::Full);
     }
-    clear(words);
     fill(words, pics, ioapics, rows)
 }
 
@@ -64,7 +79,7 @@ pub fn refusal_of(rows: &Rows) -> Option<Refusal>
     let mut words = [0; 4096];
     let mut pics = [0; 16];
     let mut ioapics = [0; 24];
-    match refill(&mut words, &mut pics, &mut ioapics, rows) {
+    match fill_empty(&mut words, &mut pics, &mut ioapics, rows) {
         Err(refusal) => Some(refusal),
         Ok(()) => None,
     }
