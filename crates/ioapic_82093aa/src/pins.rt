@@ -1,5 +1,5 @@
 //! The pins of the chip, and sets of them.
-ghost use Rattle.std.specs.Prelude.{◌≡◌, ℕ, ◌<◌, ◌↔◌, IsTrue};
+ghost use Rattle.std.specs.Prelude.{◌≡◌, ℕ, ◌<◌, ◌≤◌, ◌↔◌, IsTrue, false, true};
 ghost use Rattle.std.specs.FinSet as set;
 
 use std::marker::Model;
@@ -107,6 +107,22 @@ impl Pins {
         ensures { result ≡ set.contains self.now pin }
     {
         self.word >> pin.number & 1 == 1
+    }
+
+    /// The first pin of the set from that number on, or 24 where there is none.
+    pub fn next(&self, from: u8) -> u8
+        requires { from ≤ 24 }
+        ensures range { result ≤ 24 }
+        ensures on { from ≤ result }
+        ensures none_between { (pin : ℕ) → from ≤ pin → pin < result → set.contains self.now pin ≡ false }
+        ensures there { result < 24 → set.contains self.now result ≡ true }
+    {
+        let rest = self.word >> from;
+        if rest == 0 {
+            return PINS as u8;
+        }
+        let pin = from + rest.trailing_zeros() as u8;
+        if pin < PINS as u8 { pin } else { PINS as u8 }
     }
 
     /// Puts the pin into the set.
