@@ -177,6 +177,13 @@ impl Lapic {
         self.nmi
     }
 
+    /// The vectors that are requested (IRR).
+    pub fn requests(&self) -> Set256
+        ensures { result ≡ self.now.irr }
+    {
+        self.irr.copy()
+    }
+
     /// The greatest request whose class is above that of the processor priority: what `give` would give.
     pub fn giveable(&self) -> Option<u8>
         ensures { result ≡ giveable_of self.now }
