@@ -37,14 +37,14 @@ pub fn reroute(parts: &mut Parts, rows: &Rows) -> Result<Reply, Lacks>
             part: Part::Registry,
         });
     };
-    let (before, after) = replace(registry, rows);
     let Some(pic) = &mut parts.pic else {
         return Err(Lacks { part: Part::Pic });
     };
-    forget_moved_pics(pic, &before.pics, &after.pics);
     let Some(ioapic) = &mut parts.ioapic else {
         return Err(Lacks { part: Part::Ioapic });
     };
+    let (before, after) = replace(registry, rows);
+    forget_moved_pics(pic, &before.pics, &after.pics);
     forget_moved_ioapics(ioapic, &before.ioapics, &after.ioapics);
     Ok(Reply::Done)
 }

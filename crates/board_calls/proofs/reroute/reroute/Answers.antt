@@ -3,16 +3,6 @@ use Rattle.board_raise.specs.declared.parts.Parts as code
 use Rattle.board_calls.proofs.InHand.{in_hand}
 use Rattle.board_calls.proofs.reroute.reroute.Goals as goal
 
-pub returns-in_default-pic-clause-held : goal.returns-in_default-pic-clause-held
-returns-in_default-pic-clause-held c =
-    let p : code.Parts = c.args.parts.now in
-    in_hand p (record p { registry = Some c.replace.new.registry }) (sym (ap is_some c.in-Some.is)) refl refl refl refl refl
-
-pub returns-in_default-ioapic-clause-held : goal.returns-in_default-ioapic-clause-held
-returns-in_default-ioapic-clause-held c =
-    let p : code.Parts = c.args.parts.now in
-    in_hand p (record p { registry = Some c.replace.new.registry; pic = Some c.forget_moved_pics.new.part }) (sym (ap is_some c.in-Some.is)) refl refl (sym (ap is_some c.in-Some-pic.is)) refl refl
-
 pub returns-clause-held : goal.returns-clause-held
 returns-clause-held c =
     let p : code.Parts = c.args.parts.now in
