@@ -1,4 +1,3 @@
-pub mod Crossing
 pub mod Passes
 pub mod Places
 pub mod Ways

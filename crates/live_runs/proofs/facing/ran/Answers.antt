@@ -2,7 +2,7 @@ use denote.Param.Send.{sendable}
 use Rattle.std.proofs.Crossing.{crosses}
 use Rattle.irq_base.proofs.face.Stops.TheSendSync as stops
 use Rattle.part_board.proofs.live.LiveBoard.TheSendSync as live
-use Rattle.live_runs.proofs.Crossing.{pass_field, pass_send}
+use Rattle.part_board.proofs.Crossing.{pass_field, pass_send}
 use Rattle.std.proofs.Common.{All, Some, refl, sym, ap, ◌∙◌, subst}
 use Rattle.part_board.specs.Seen.{IsPassOf}
 use Rattle.live_runs.specs.Made.{callers_of, IsFresh}
