@@ -17,6 +17,8 @@ mod desk;
 mod dues;
 mod error;
 mod gathering;
+#[cfg(test)]
+mod held;
 mod learning;
 mod live;
 mod note;
