@@ -63,6 +63,10 @@ apic_whole (None ∷ row) zero m there = absurd (true≢false (sym there))
 apic_whole (Some a ∷ row) zero m there = refl
 apic_whole (place ∷ row) (suc n) m there = apic_whole row n m there
 
+-- the local APIC of a processor is in hand, as the board has it
+pub kept_apic : (a : Inside) (n : ℕ) → IsKept a → n < a.shape.cpus → apic_in a.rig.parts.lapics n ≡ Some (part_of (board_in a) (Lapic n))
+kept_apic a n kept low = apic_whole a.rig.parts.lapics n n (kept.whole.each (Lapic n) (below_is n a.shape.cpus low))
+
 pub kept_due : (a : Inside) (n : ℕ) → IsKept a → n < a.shape.cpus → due_in n (apic_in a.rig.parts.lapics n) (option_map (λ (c : pic.PicPart). c.pair) a.rig.parts.pic) ≡ due_by n (part_of (board_in a) (Lapic n)) (pair_of (board_in a).pic)
 kept_due a n kept low =
     λ i. due_in n ((apic_whole a.rig.parts.lapics n n (kept.whole.each (Lapic n) (below_is n a.shape.cpus low))) i) ((pair_whole a.rig.parts.pic (kept.whole.each Pic refl) kept.pins.pic) i)

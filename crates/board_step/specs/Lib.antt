@@ -12,3 +12,4 @@ pub mod Opening
 pub mod Owned
 pub mod Seen
 pub mod Due
+pub mod Requests

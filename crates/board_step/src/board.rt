@@ -2,6 +2,7 @@
 ghost use Rattle.std.specs.Prelude.{◌≡◌, ◌<◌, ◌≤◌, ◌↔◌, [], IfOk, IsErrOf, Err, true, false, length, None, Some, MatchResult, OnErr};
 ghost use Rattle.irq_base.specs.Callers.{is_allowed};
 ghost use Rattle.irq_base.specs.declared.shape.Part.{Part as AnyPart};
+ghost use Rattle.irq_base.specs.declared.shape.Part.TheVariants.{Lapic};
 ghost use Rattle.board_model.specs.Board.{part_of};
 ghost use Rattle.board_model.specs.Run.{Wishes};
 ghost use Rattle.board_model.specs.Published.{published};
@@ -24,11 +25,12 @@ use crate::limits::{barred_by, would_publish_in};
 use crate::open::OpenError;
 use crate::opening::{is_in_limits, rig};
 use crate::reach_calls::reach_in_hand;
+use crate::requests::{nmi_in_hand, requests_in_hand};
 use crate::step::step_on;
 use crate::typed::calls_are_typed;
 use board_raise::{BoardRig, Parts, Words};
 use irq_base::{Call, Caller, Done, Events, NoMemory, Part, Shape, Spent};
-use irq_bits::CpuSet;
+use irq_bits::{CpuSet, Set256};
 use std::alloc::Global;
 use std::marker::Model;
 
@@ -182,6 +184,22 @@ impl Board {
         ensures { (ws : Wishes) → AnswersDue self.now cpu result ws }
     {
         due_in_hand(self.rig.all(), cpu)
+    }
+
+    /// The vectors that are requested of the processor's local APIC: its IRR (SDM volume 3). It takes no memory.
+    pub fn requests(&self, cpu: u16) -> Set256
+        requires { cpu < self.now.shape.cpus }
+        ensures { result ≡ (part_of self.now (Lapic cpu)).irr }
+    {
+        requests_in_hand(self.rig.all(), cpu)
+    }
+
+    /// Whether an NMI is pending at the processor's local APIC, which its next `Ack` would take.
+    pub fn nmi(&self, cpu: u16) -> bool
+        requires { cpu < self.now.shape.cpus }
+        ensures { result ≡ (part_of self.now (Lapic cpu)).nmi }
+    {
+        nmi_in_hand(self.rig.all(), cpu)
     }
 
     /// Whether a call by that caller would reach the part: look at it, or change it. It tells what the board is now, and it runs

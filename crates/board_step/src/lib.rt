@@ -25,6 +25,7 @@ mod reach_acks;
 mod reach_calls;
 mod reach_registrations;
 mod reach_signals;
+mod requests;
 mod same;
 mod seen;
 mod sound;
