@@ -1,106 +1,117 @@
-//! Runs of the top call over ends in memory.
-use io_edge::{MemSink, MemSource, OpenGate, Word};
-use irqboard::{Bench, Outcome, irqboard};
+//! Runs of the program: texts of a command line in, a line on standard error and an exit status out.
+ghost use Rattle.std.specs.Prelude.{◌<◌};
+
+use crate::asking::{FIRST_SCRIPT, FIRST_TRANSCRIPT};
+use io_edge::{MemSink, MemSource, OpenGate};
+use irqboard::{Bench, asked};
 use std::alloc::{AllocError, Global};
+use std::env::Args;
+use std::io;
+use std::process::{ExitCode, Termination};
 use std::sync::Wait;
+use std::test::Fail;
 use std::thread::Threads;
 
-/// Row by row the script of the first transcript, and that transcript.
-pub const FIRST_SCRIPT: &str =
-    "irqboard 1\ncpus 1\ncpu0 store fee000f0 4 000001ff\ncpu0 msi fee00000 00000041\ncpu0 ack\ncpu0 eoi\nend\n";
+// The texts of a command line, which spaces part here, the name first; or why they are not to be had.
+#[derive(Clone, Copy)]
+enum Texts {
+    Are(&'static str),
+    NoMemory,
+    NoText,
+}
 
-pub const FIRST_TRANSCRIPT: &str =
-    "transcript 1\n0 cpu0 store fee000f0 4 000001ff -> done\n1 cpu0 msi fee00000 00000041 -> delivered new=1 stood=0 pic=0\n2 cpu0 ack -> vector 41\n3 cpu0 eoi -> ended 41\nend 4\n";
+// The usage line.
+const USAGE: &str =
+    "usage: irqboard replay | run | check | gen START LINES CPUS | sum START LINES CPUS\n";
 
-/// The texts of a command line, which spaces part here.
-pub fn texts(alloc: Global, line: &str) -> Result<Vec<String>, AllocError> {
+// No such write is made.
+const NEVER: u64 = u64::MAX;
+
+// The texts, the write of standard error that fails, the exit status, and what is said, of which the first write takes 50 bytes. A fault of
+// standard error changes no status.
+const RUNS: [(Texts, u64, u8, &str); 12] = [
+    (Texts::Are("irqboard replay"), 0, 0, ""),
+    (Texts::Are("irqboard run"), 0, 0, ""),
+    (Texts::Are("run run"), 0, 0, ""),
+    (Texts::Are("replay replay"), 0, 0, ""),
+    (Texts::Are("replay"), NEVER, 1, USAGE),
+    (Texts::Are("irqboard"), NEVER, 1, USAGE),
+    (Texts::Are(""), NEVER, 1, USAGE),
+    (Texts::Are("irqboard replay replay"), NEVER, 1, USAGE),
+    (Texts::Are("irqboard"), 0, 1, ""),
+    (
+        Texts::Are("irqboard"),
+        1,
+        1,
+        "usage: irqboard replay | run | check | gen START L",
+    ),
+    (Texts::NoMemory, NEVER, 5, "no memory\n"),
+    (Texts::NoText, NEVER, 1, USAGE),
+];
+
+// The texts as the program gets them.
+fn args(alloc: Global, texts: Texts) -> Result<io::Result<Args>, AllocError> {
+    let line = match texts {
+        Texts::Are(line) => line,
+        Texts::NoMemory => return Ok(Err(io::Error::from(io::ErrorKind::OutOfMemory))),
+        Texts::NoText => return Ok(Err(io::Error::from(io::ErrorKind::InvalidData))),
+    };
     let mut texts = Vec::new(alloc);
     for text in line.split_whitespace() {
         texts.push(String::from_str(alloc, text)?)?;
     }
-    Ok(texts)
+    Ok(Ok(texts.into_iter()))
 }
 
-/// The words of a command line without its name.
-pub fn words(alloc: Global, line: &str) -> Result<Vec<Word>, AllocError> {
-    let mut words = Vec::new(alloc);
-    for text in texts(alloc, line)? {
-        words.push(Word::of(text))?;
+// A sink with room for all that is said or written.
+fn sink(alloc: Global, step: usize, write: u64) -> Result<MemSink, AllocError>
+    requires { 0 < step }
+{
+    match MemSink::of(alloc, 1000, step, [write].to_vec(alloc)?) {
+        Ok(sink) => Ok(sink),
+        Err(_) => Err(AllocError),
     }
-    Ok(words)
 }
 
-/// Asks the top call for these words over these ends.
-pub fn ask<R: Threads + Wait + Sync>(
+// Whether the program ends with that status over the first script, says that, and writes the transcript where the status is 0, else nothing.
+fn ends_so<R: Threads + Wait + Sync + Eprint>(
     rt: &R,
     alloc: Global,
-    line: &str,
-    source: &mut MemSource,
-    sink: &mut MemSink,
-) -> Result<Outcome, AllocError> {
-    let words = words(alloc, line)?;
+    texts: Texts,
+    write: u64,
+    status: u8,
+    said: &str,
+) -> Result<bool, AllocError> {
+    let mut source = MemSource::of(FIRST_SCRIPT.as_bytes().to_vec(alloc)?, 7, Vec::new(alloc));
+    let mut output = sink(alloc, 5, NEVER)?;
+    let mut errors = sink(alloc, 50, write)?;
     let mut bench = Bench::empty();
-    Ok(irqboard(
+    let texts = args(alloc, texts)?;
+    let ended = asked(
         rt,
         alloc,
-        words.as_slice(),
-        source,
-        sink,
+        texts,
+        &mut source,
+        &mut output,
         &OpenGate,
         &mut bench,
-    ))
-}
-
-/// Asks for that one word over the input, and gives the answer, and all that was written.
-pub fn answered<R: Threads + Wait + Sync>(
-    rt: &R,
-    alloc: Global,
-    word: &str,
-    input: Vec<u8>,
-) -> Result<(Outcome, MemSink), AllocError> {
-    let mut source = MemSource::of(input, 4096, Vec::new(alloc));
-    let Ok(mut sink) = MemSink::of(alloc, 1 << 20, 4096, Vec::new(alloc)) else {
-        return Err(AllocError);
-    };
-    let outcome = ask(rt, alloc, word, &mut source, &mut sink)?;
-    Ok((outcome, sink))
-}
-
-/// Replays the input.
-pub fn replayed<R: Threads + Wait + Sync>(
-    rt: &R,
-    alloc: Global,
-    input: Vec<u8>,
-) -> Result<(Outcome, MemSink), AllocError> {
-    answered(rt, alloc, "replay", input)
-}
-
-/// Checks the transcript behind the script.
-pub fn checked<R: Threads + Wait + Sync>(
-    rt: &R,
-    alloc: Global,
-    script: &str,
-    transcript: &str,
-) -> Result<(Outcome, MemSink), AllocError> {
-    let mut input = script.as_bytes().to_vec(alloc)?;
-    input.extend_from_slice(transcript.as_bytes())?;
-    answered(rt, alloc, "check", input)
-}
-
-/// Whether a replay of the script writes the transcript and ends so, and a check of both says that it is legal.
-pub fn is_run<R: Threads + Wait + Sync>(
-    rt: &R,
-    alloc: Global,
-    script: &str,
-    transcript: &str,
-    wanted: Outcome,
-) -> Result<bool, AllocError> {
-    let (outcome, sink) = replayed(rt, alloc, script.as_bytes().to_vec(alloc)?)?;
-    let (verdict, line) = checked(rt, alloc, script, transcript)?;
-    Ok(
-        outcome == wanted
-            && sink.bytes() == transcript.as_bytes()
-            && verdict == Outcome::Fine
-            && line.bytes() == b"legal\n".as_slice(),
     )
+    .said(&mut errors);
+    let written = if status == 0 { FIRST_TRANSCRIPT } else { "" };
+    Ok(
+        ended.report(rt) == ExitCode::from(status)
+            && errors.bytes() == said.as_bytes()
+            && output.bytes() == written.as_bytes(),
+    )
+}
+
+#[test]
+fn runs_end_as_the_answer_is(rt: HostRuntime) -> Result<(), Fail> {
+    for (k, (texts, write, status, said)) in RUNS.iter().enumerate() {
+        assert!(rt;
+            ends_so(&rt, rt.alloc(), *texts, *write, *status, *said)?,
+            "run {k}"
+        );
+    }
+    Ok(())
 }

@@ -1,21 +1,14 @@
-//! Tests of the program: texts in and out of the top call.
+//! Tests of the program of what is not seen from outside: a source or a sink that fails in mid-stream, texts of a command line that are not to
+//! be had, actors that are held until they meet, and the board that a run leaves. All else is played on the built program by `tests/rows`.
 #![tactic(auto)]
 
 #[cfg(test)]
-mod checks;
-#[cfg(test)]
-mod edges;
+mod asking;
 #[cfg(test)]
 mod ends;
 #[cfg(test)]
+mod faults;
+#[cfg(test)]
 mod lives;
 #[cfg(test)]
-mod makings;
-#[cfg(test)]
 mod meeting;
-#[cfg(test)]
-mod replays;
-#[cfg(test)]
-mod rows;
-#[cfg(test)]
-mod runs;

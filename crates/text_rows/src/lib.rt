@@ -1,9 +1,10 @@
-//! Scripts as texts: bad lines with their causes, numbers at their bounds, and what actors ask.
+//! Tests of scripts and transcripts as values: what is read of their texts, and what is printed of replies and events. What the program tells
+//! of such texts is played by `tests/rows`.
 #![tactic(auto)]
 
 #[cfg(test)]
 mod asking;
 #[cfg(test)]
-mod bad_lines;
+mod printing;
 #[cfg(test)]
-mod good_lines;
+mod reading;
