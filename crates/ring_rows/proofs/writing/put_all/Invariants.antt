@@ -1,5 +1,0 @@
-use Rattle.write_ring.specs.Seen.{IsPassOf}
-use Rattle.ring_rows.proofs.writing.put_all.Given as goal
-
-abbrev pub invariant-loop-number : goal.invariant-loop-number
-invariant-loop-number g l = IsPassOf l.ring l.pass
