@@ -6,7 +6,7 @@ use Rattle.board_raise.specs.declared.parts.Parts.{Parts}
 use Rattle.board_raise.specs.Fit.{Fits, LapicsFit}
 use Rattle.board_raise.specs.InHand.{parts_of, chips_of}
 use Rattle.board_raise.specs.OnRow.{Row, apic_in}
-use Rattle.rig_rows.specs.Lacking.{StillFits}
+use Rattle.board_rows.specs.Lacking.{StillFits}
 
 pub without_registry : (p : Parts) → StillFits p (record p { registry = None })
 without_registry p numbers f = record { limits = f.limits; counters = f.counters; registrations = tt; tick = f.tick; lapics = record { places = f.lapics.places; numbers = f.lapics.numbers }; pins = f.pins }

@@ -1,5 +1,5 @@
 //! Parts that a signal or an acknowledge needs, and that are not in hand.
-ghost use Rattle.rig_rows.specs.Lacking.{StillFits};
+ghost use Rattle.board_rows.specs.Lacking.{StillFits};
 
 use board_ack::ack_pin;
 use board_raise::{BoardRig, Lacks, Parts, Rig, lower_gsi, raise_gsi};
