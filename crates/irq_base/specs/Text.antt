@@ -1,7 +1,8 @@
 -- How callers, statuses, refusals, events and causes are spelled.
 use Rattle.std.specs.Prelude.{ℕ, false, List, ◌++◌, codes, if◌then◌else◌, Some, None}
 use Rattle.std.specs.Fmt.{digits, decimal}
-use Rattle.irq_bits.specs.Members.{word_of}
+use Rattle.irq_bits.specs.Members.{Numbers, word_of}
+use Rattle.irq_bits.specs.declared.limits.TheConstants.{MAX_CPUS}
 use Rattle.irq_base.specs.declared.call.Caller.{Caller}
 use Rattle.irq_base.specs.declared.call.Caller.TheVariants.{Device, Cpu}
 use Rattle.irq_base.specs.declared.status.Cause.{Cause}
@@ -32,12 +33,15 @@ cause_text NoProcessor = codes "no-processor"
 cause_text BadVector = codes "bad-vector"
 cause_text Mode = codes "mode"
 
--- a set is spelled as its word in hexadecimal
+-- a set of processors is spelled as its word in hexadecimal
+abbrev pub set_text : Numbers → List ℕ
+set_text s = hex (word_of MAX_CPUS s)
+
 abbrev pub status_text : Status → List ℕ
 status_text (Delivered new stood pic) =
     codes "delivered new="
-    ++ (hex (word_of 64 new) ++ (codes " stood=" ++ (hex (word_of 64 stood) ++ (codes " pic=" ++ decimal (if pic then 1 else 0)))))
-status_text (Coalesced stood) = codes "coalesced stood=" ++ hex (word_of 64 stood)
+    ++ (set_text new ++ (codes " stood=" ++ (set_text stood ++ (codes " pic=" ++ decimal (if pic then 1 else 0)))))
+status_text (Coalesced stood) = codes "coalesced stood=" ++ set_text stood
 status_text (Ignored cause) = codes "ignored " ++ cause_text cause
 status_text Lowered = codes "lowered"
 

@@ -2,11 +2,12 @@
 ghost use Rattle.std.specs.Prelude.{◌≡◌};
 ghost use Rattle.irq_base.specs.Callers.{is_allowed, is_of_processor};
 
+use crate::limits::MAX_DEVICES;
 use crate::lists::Rows;
 use crate::shape::Shape;
 use std::fmt;
 
-/// Who asks: a device of the monitor, numbered below 64, or a processor of the guest.
+/// Who asks: a device of the monitor, numbered below [`MAX_DEVICES`], or a processor of the guest.
 #[derive(Clone, Copy, Debug, PartialEq, Eq)]
 pub enum Caller {
     Device(u16),
@@ -140,13 +141,13 @@ pub enum Call {
 }
 
 impl Call {
-    /// Whether the caller may ask this of a board of that shape: a device below 64 or a processor of the board, the last
-    /// seven calls from a processor alone, and `Inta` from processor 0.
+    /// Whether the caller may ask this of a board of that shape: a device below [`MAX_DEVICES`] or a processor of the board, the
+    /// last seven calls from a processor alone, and `Inta` from processor 0.
     pub fn allowed(&self, caller: Caller, shape: &Shape) -> bool
         ensures { result ≡ is_allowed caller self.now shape.now }
     {
         match caller {
-            Caller::Device(d) => d < 64 && !self.is_of_processor(),
+            Caller::Device(d) => d < MAX_DEVICES && !self.is_of_processor(),
             Caller::Cpu(n) => {
                 let is_there = n < shape.cpus;
                 match self {

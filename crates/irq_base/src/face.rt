@@ -49,7 +49,7 @@ pub trait Face {
     // a limit of the board bars this call
     ghost barred: { Self → Asked → Type 0 };
 
-    /// Who asks: a device below 64 or a processor of the board.
+    /// Who asks: a device below `MAX_DEVICES` or a processor of the board.
     fn caller(&self) -> Caller
         ensures who { result ≡ who self.now }
         ensures there { is_there result (shape self.now) ≡ true };

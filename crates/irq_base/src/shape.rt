@@ -3,7 +3,7 @@
 /// What a board is made with. The limits are this board's own rule.
 #[derive(Clone, Copy, Debug, PartialEq, Eq)]
 pub struct Shape {
-    /// Processors, each with a local APIC: 1 to 64.
+    /// Processors, each with a local APIC: 1 to [`MAX_CPUS`](irq_bits::MAX_CPUS).
     pub cpus: u16,
     /// Counters in the manner of eventfd: 0 to 256.
     pub counters: u16,
