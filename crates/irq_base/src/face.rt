@@ -1,5 +1,5 @@
 //! One caller's way to a board.
-ghost use Rattle.std.specs.Prelude.{◌≡◌, ℕ, ◌<◌, List, Option, true, false, None, Some, IfErr, IfSome, IsOk};
+ghost use Rattle.std.specs.Prelude.{◌≡◌, ℕ, ◌<◌, List, [], Option, Result, true, false, None, Some, IfErr, IfSome, IsOk, OnErr};
 ghost use Rattle.irq_base.specs.Callers.{is_allowed, is_there};
 ghost use Rattle.irq_base.specs.Faces.{
   Rose,
@@ -13,6 +13,8 @@ ghost use Rattle.irq_base.specs.Faces.{
 };
 ghost use Rattle.irq_base.specs.declared.call.Call.{Call as Asked};
 ghost use Rattle.irq_base.specs.declared.call.Caller.{Caller as Asker};
+ghost use Rattle.irq_base.specs.declared.event.Event.{Event as Happened};
+ghost use Rattle.irq_base.specs.declared.reply.Done.{Done as Answer};
 ghost use Rattle.irq_base.specs.declared.reply.Spent.{Spent as Limit};
 ghost use Rattle.irq_base.specs.declared.shape.Shape.{Shape as Size};
 
@@ -46,8 +48,12 @@ pub trait Face {
     // how many calls are left to the board's limit, where the face tells it
     ghost left: { Self → Option ℕ };
 
-    // a limit of the board bars this call
-    ghost barred: { Self → Asked → Type 0 };
+    // this limit of the board bars this call
+    ghost barred: { Self → Asked → Limit → Type 0 };
+
+    // a call that was asked of the face before, the events that it handed out, its answer, and the face after are as this face
+    // promises: over a board on one thread, that the call is a step of that board
+    ghost keeps: { Self → Asked → List Happened → Result Answer Limit → Self → Type 0 };
 
     /// Who asks: a device below `MAX_DEVICES` or a processor of the board.
     fn caller(&self) -> Caller
@@ -55,7 +61,7 @@ pub trait Face {
         ensures there { is_there result (shape self.now) ≡ true };
 
     /// Asks a call, and tells what happened in it: the events are cleared first. `Spent` where a limit of the board bars the
-    /// call.
+    /// call, which it names; then there is no event.
     fn ask(&mut self, call: &Call, events: &mut Events) -> Result<Done, Spent>
         requires allowed { is_allowed (who self.old) call.now (shape self.old) ≡ true }
         ensures shape { shape self.new ≡ shape self.old }
@@ -67,7 +73,9 @@ pub trait Face {
             now ≡ own_after (who self.old) call.now events.new.items result before) }
         ensures left { WhereTold (left self.old) (left self.new) (LeftFalls result) }
         ensures answers { IfSome (left self.old) (λ left. 0 < left → may_publish call.now ≡ false → IsOk result) }
-        ensures barred { IfErr result (λ _. barred self.new call.now) };
+        ensures barred { IfErr result (λ spent. barred self.new call.now spent) }
+        ensures quiet { OnErr result (events.new.items ≡ []) }
+        ensures keeps { keeps self.old call.now events.new.items result self.new };
 }
 
 /// What a face keeps of the calls that a limit barred: how many there were, as far as a `u64` counts, and the limit of the
