@@ -1,5 +1,6 @@
 -- Calls that a face answers one after another are told together.
 use Rattle.std.proofs.Common.{◌≡◌, ℕ, ◌+◌, ◌<◌, ◌≤◌, Bool, true, false, ◌&&◌, not, nat_lt, nat_eq, List, [], ◌∷◌, ◌++◌, length, All, Some, None, Ok, Err, IfSome, IsOk, refl, sym, ap, ◌∙◌, subst, arith, append_assoc, length-append}
+use Rattle.std.proofs.lemmas.Grind.{flat_map-append}
 use Rattle.std.proofs.lemmas.List.{append-nil}
 use Rattle.std.proofs.lemmas.List.Elements.{All-nil, All-cons, All-append}
 use Rattle.std.specs.declared.option.Option.{Option}
@@ -15,7 +16,7 @@ use Rattle.irq_base.specs.declared.face.Face.{Ghosts}
 use Rattle.irq_base.specs.declared.reply.Done.{Done}
 use Rattle.irq_base.specs.declared.reply.Spent.{Spent}
 use Rattle.irq_base.specs.declared.shape.Shape.{Shape}
-use Rattle.face_asks.specs.Asks.{answered_by, limit_in, AreOf, HasAnswered, StopTold, IsAnswered}
+use Rattle.face_asks.specs.Asks.{Ask, answered_by, answered_in, limit_in, AreOf, WereAsked, HasKept, HasAnswered, StopTold, IsAnswered}
 
 -- a caller that is there may ask what is not for processors alone
 pub allowed_to_any : (who : Caller) (call : Call) (shape : Shape) → is_there who shape ≡ true → is_of_processor call ≡ false → is_allowed who call shape ≡ true
@@ -24,7 +25,7 @@ allowed_to_any (Cpu n) Inta shape there free = cc
 allowed_to_any (Cpu n) call shape there free = there
 
 -- what is told after one change and then another
-told_then : {A : Type 0} (a b c : Option A) (P Q R : A → A → Type 0) → ((x y z : A) → P x y → Q y z → R x z) → WhereTold a b P → WhereTold b c Q → WhereTold a c R
+pub told_then : {A : Type 0} (a b c : Option A) (P Q R : A → A → Type 0) → ((x y z : A) → P x y → Q y z → R x z) → WhereTold a b P → WhereTold b c Q → WhereTold a c R
 told_then (Some x) (Some y) (Some z) P Q R both p q = both x y z p q
 told_then None None None P Q R both p q = tt
 told_then (Some x) (Some y) None P Q R both p q = q
@@ -32,17 +33,44 @@ told_then (Some x) None c P Q R both p q = absurd p
 told_then None (Some y) c P Q R both p q = absurd p
 told_then None None (Some z) P Q R both p q = q
 
-told_same : {A : Type 0} (a : Option A) (P : A → A → Type 0) → ((x : A) → P x x) → WhereTold a a P
+pub told_same : {A : Type 0} (a : Option A) (P : A → A → Type 0) → ((x : A) → P x x) → WhereTold a a P
 told_same (Some x) P same = same x
 told_same None P same = tt
 
-told_weaker : {A : Type 0} (a b : Option A) (P Q : A → A → Type 0) → ((x y : A) → P x y → Q x y) → WhereTold a b P → WhereTold a b Q
+pub told_weaker : {A : Type 0} (a b : Option A) (P Q : A → A → Type 0) → ((x y : A) → P x y → Q x y) → WhereTold a b P → WhereTold a b Q
 told_weaker (Some x) (Some y) P Q weaker p = weaker x y p
 told_weaker None None P Q weaker p = tt
 told_weaker (Some x) None P Q weaker p = absurd p
 told_weaker None (Some y) P Q weaker p = absurd p
 
 module _ {F : Type 0} (face : Ghosts F) where
+  -- ---- each as the face promises
+
+  asked_then : (x y z : F) (one two : List Ask) → WereAsked face x one y → WereAsked face y two z → WereAsked face x (one ++ two) z
+  asked_then x y z [] two same second = subst (λ w. WereAsked face w two z) same second
+  asked_then x y z (a ∷ one) two (next, kept, more) second = (next, kept, asked_then next y z one two more second)
+
+  pub kept_none : (x : F) → HasKept face x x []
+  kept_none x = record { asks = []; asked = refl; just = refl }
+
+  pub kept_one : (x y : F) (call : Call) (events : List Event) (answer : Result Done Spent) → face.keeps x call events answer y
+      → HasKept face x y (answered_by (face.who x) call events answer)
+  kept_one x y call events answer kept = record {
+    asks = record { call = call; events = events; answer = answer } ∷ [];
+    asked = (y, kept, refl);
+    just = append-nil (answered_by (face.who x) call events answer);
+  }
+
+  pub kept_then : (x y z : F) (ps qs : List PlacedEntry) → face.who y ≡ face.who x → HasKept face x y ps → HasKept face y z qs → HasKept face x z (ps ++ qs)
+  kept_then x y z ps qs who first second = record {
+    asks = first.asks ++ second.asks;
+    asked = asked_then x y z first.asks second.asks first.asked second.asked;
+    just = flat_map-append (λ (a : Ask). answered_by (face.who x) a.call a.events a.answer) first.asks second.asks
+        ∙ (λ i. first.just i ++ (ap (λ w. answered_in w second.asks) (sym who) ∙ second.just) i);
+  }
+
+  -- ---- what it tells
+
   -- nothing was asked
   pub answered_none : (x : F) → HasAnswered face x x []
   answered_none x = record {
@@ -53,6 +81,7 @@ module _ {F : Type 0} (face : Ghosts F) where
     own = told_same (face.own x) (λ had has. has ≡ had ++ []) (λ had. sym (append-nil had));
     left = told_same (face.left x) (λ had has. has + length {A = PlacedEntry} [] ≡ had) (λ had. omega arith);
     callers = All-nil (λ (p : PlacedEntry). p.entry.caller ≡ face.who x);
+    kept = kept_none x;
   }
 
   -- more calls were answered after others
@@ -67,6 +96,7 @@ module _ {F : Type 0} (face : Ghosts F) where
     left = told_then (face.left x) (face.left y) (face.left z) (λ had has. has + length ps ≡ had) (λ had has. has + length qs ≡ had) (λ had has. has + length (ps ++ qs) ≡ had)
         (λ a b c one two. let long = length-append ps qs in omega (arith, one, two, long)) first.left second.left;
     callers = All-append (λ (p : PlacedEntry). p.entry.caller ≡ face.who x) ps qs first.callers (subst (λ who. AreOf who qs) first.caller second.callers);
+    kept = kept_then x y z ps qs first.caller first.kept second.kept;
   }
 
   -- what a face's clauses tell of a call
@@ -96,8 +126,9 @@ module _ {F : Type 0} (face : Ghosts F) where
         → IsPlaced answer (face.floor before) (face.floor after)
         → WhereTold (face.own before) (face.own after) (λ had has. has ≡ own_after (face.who before) call events answer had)
         → WhereTold (face.left before) (face.left after) (LeftFalls answer)
+        → face.keeps before call events answer after
         → HasAnswered face before after (answered_by (face.who before) call events answer)
-    answered_one answer shape who home place own left = record {
+    answered_one answer shape who home place own left kept = record {
       shape = shape;
       caller = who;
       home = home;
@@ -105,4 +136,5 @@ module _ {F : Type 0} (face : Ghosts F) where
       own = told_weaker (face.own before) (face.own after) _ _ (own_gained answer) own;
       left = told_weaker (face.left before) (face.left after) _ _ (left_falls answer) left;
       callers = of_caller answer;
+      kept = kept_one before after call events answer kept;
     }

@@ -1,5 +1,5 @@
 -- Calls that are asked of a face one after another, and what it tells of them (this board's own rule).
-use Rattle.std.specs.Prelude.{◌≡◌, ℕ, ◌+◌, ◌<◌, ◌≤◌, false, List, [], ◌∷◌, ◌++◌, length, All, Some, None, Ok, Err, IfSome, IfErr, IsOk}
+use Rattle.std.specs.Prelude.{◌≡◌, ℕ, ◌+◌, ◌<◌, ◌≤◌, false, List, [], ◌∷◌, ◌++◌, flat_map, length, All, Some, None, Ok, Err, IfSome, IfErr, IsOk, OnErr}
 use Rattle.std.specs.declared.option.Option.{Option}
 use Rattle.std.specs.declared.result.Result.{Result}
 use Rattle.irq_base.specs.Faces.{PlacedEntry, WhereTold, Rose, may_publish}
@@ -16,6 +16,16 @@ answered_by who call events (Ok done) =
     record { entry = record { caller = who; call = call; reply = done.reply; events = events }; at = done.at } ∷ []
 answered_by who call events (Err spent) = []
 
+-- a call that was asked of a face, the events that it handed out, and its answer
+pub record Ask : Type 0 where
+  pub call : Call
+  pub events : List Event
+  pub answer : Result Done Spent
+
+-- those of a caller's asks that were answered
+abbrev pub answered_in : Caller → List Ask → List PlacedEntry
+answered_in who asks = flat_map (λ (a : Ask). answered_by who a.call a.events a.answer) asks
+
 -- the limit in an answer, if it is one
 abbrev pub limit_in : {A : Type 0} → Result A Spent → Option Spent
 limit_in (Ok answer) = None
@@ -26,6 +36,21 @@ abbrev pub AreOf : Caller → List PlacedEntry → Type 0
 AreOf who answered = All (λ (p : PlacedEntry). p.entry.caller ≡ who) answered
 
 module _ {F : Type 0} (face : Ghosts F) where
+  -- ---- each as the face promises
+
+  -- these were asked of a face one after another, each being as it promises, and nothing else was
+  abbrev pub WereAsked : F → List Ask → F → Type 0
+  WereAsked before [] after = after ≡ before
+  WereAsked before (a ∷ asks) after = (next : F) × face.keeps before a.call a.events a.answer next × WereAsked next asks after
+
+  -- of what was asked, just these calls of its caller were answered
+  pub record HasKept (before after : F) (answered : List PlacedEntry) : Type 0 where
+    pub asks : List Ask
+    pub asked : WereAsked before asks after
+    pub just : answered_in (face.who before) asks ≡ answered
+
+  -- ---- what it tells
+
   -- a face answered these calls of its caller, one after another
   pub record HasAnswered (before after : F) (answered : List PlacedEntry) : Type 0 where
     pub shape : face.shape after ≡ face.shape before
@@ -37,6 +62,8 @@ module _ {F : Type 0} (face : Ghosts F) where
     -- where it tells how many calls are left to it, they are fewer by just these
     pub left : WhereTold (face.left before) (face.left after) (λ had has. has + length answered ≡ had)
     pub callers : AreOf (face.who before) answered
+    -- and each ask was as it promises
+    pub kept : HasKept before after answered
 
   -- no limit barred a call, or this one barred a call and is the last that did
   abbrev pub StopTold : Option Spent → F → F → Type 0
@@ -49,4 +76,6 @@ module _ {F : Type 0} (face : Ghosts F) where
     pub stops : StopTold (limit_in answer) before after
     -- where the face tells that a call is left to it, only the limit of publications can bar one
     pub enough : IfSome (face.left before) (λ left. 0 < left → may_publish call ≡ false → IsOk answer)
-    pub barred : IfErr answer (λ _. face.barred after call)
+    pub barred : IfErr answer (λ spent. face.barred after call spent)
+    pub quiet : OnErr answer (events ≡ [])
+    pub kept : face.keeps before call events answer after

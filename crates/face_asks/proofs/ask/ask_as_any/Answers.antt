@@ -17,8 +17,10 @@ returns g c =
     let before = c.args.face.now in
     let after = c.ask.new.self in
     record {
-      answered = answered_one g.F.Face before after c.args.call.now c.ask.new.events.items answer told.shape told.who told.home told.place told.own told.left;
+      answered = answered_one g.F.Face before after c.args.call.now c.ask.new.events.items answer told.shape told.who told.home told.place told.own told.left told.keeps;
       stops = stop_told g.F.Face before after c.args.call.now c.ask.new.events.items answer told.stops;
       enough = told.answers;
       barred = told.barred;
+      quiet = told.quiet;
+      kept = told.keeps;
     }
