@@ -113,14 +113,12 @@ fn message() -> Call {
 
 // Processor 0 asks; whether it was answered.
 fn is_answered(board: &mut Board, call: &Call, events: &mut Events) -> bool {
-    events.clear();
     call.allowed(Caller::Cpu(0), &board.shape())
         && board.apply(Caller::Cpu(0), call, events).is_ok()
 }
 
 // Processor 0 asks; whether the answer gives it a vector.
 fn is_given(board: &mut Board, call: &Call, events: &mut Events) -> bool {
-    events.clear();
     if !call.allowed(Caller::Cpu(0), &board.shape()) {
         return false;
     }

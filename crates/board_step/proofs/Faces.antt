@@ -1,5 +1,5 @@
 -- What a face over a board on one thread keeps.
-use Rattle.board_step.proofs.Basics.{◌≡◌, ℕ, ◌+◌, ◌-◌, ◌<◌, ◌≤◌, Bool, true, false, ◌&&◌, nat_eq, if◌then◌else◌, List, Some, None, refl, sym, ap, ◌∙◌, subst, arith, nat_tests, Option, Call, Caller, Event, Entry, Refusal, Spent, Calls, Publications, Board, is_there, may_publish, DoneCall as Done, Applied, is_reached, entry_of, KeepsTheFrame, publishes_unless, refusal_on as refusal_of, would_publish, spent_of}
+use Rattle.board_step.proofs.Basics.{◌≡◌, ℕ, ◌+◌, ◌-◌, ◌<◌, ◌≤◌, Bool, true, false, ◌&&◌, nat_eq, if◌then◌else◌, List, [], ◌∷◌, Some, None, refl, sym, ap, ◌∙◌, subst, arith, nat_tests, Option, Call, Caller, Entry, Refusal, Spent, Calls, Publications, Board, Leads, Step, is_there, may_publish, is_reached, KeepsTheFrame, publishes_unless, refusal_on as refusal_of, would_publish, spent_of}
 use Rattle.board_step.proofs.Publishing.{steps_show_publications, steps_keep_the_frame}
 
 some_none : {A : Type 0} (x : A) → Some x ≡ None → ⊥
@@ -34,9 +34,9 @@ never_barred b call spent is left quiet = some_none spent (sym is ∙ (λ i. if 
 
 -- ---- after an answer
 
-module _ (b : Board) (caller : Caller) (call : Call) (done : Done) (before now : List Event) (c : Board) (applied : Applied b caller call done before now c) where
-  frame : KeepsTheFrame b (entry_of caller call done.reply applied.told) c
-  frame = steps_keep_the_frame b (entry_of caller call done.reply applied.told) c applied.step
+module _ (b : Board) (e : Entry) (c : Board) (step : Step b e c) where
+  frame : KeepsTheFrame b e c
+  frame = steps_keep_the_frame b e c step
 
   pub answered_shape : c.shape ≡ b.shape
   answered_shape = frame.shape
@@ -49,13 +49,13 @@ module _ (b : Board) (caller : Caller) (call : Call) (done : Done) (before now :
 
   -- the length was below the limit
   pub below_limit : b.length ≤ b.shape.calls → b.length < b.shape.calls
-  below_limit h1 = grind arith
+  below_limit h1 = (let free = step.in_limits in grind (free, arith))
 
   pub answered_left : b.length ≤ b.shape.calls → c.shape.calls - c.length + 1 ≡ b.shape.calls - b.length
   answered_left most = (λ i. (frame.shape i).calls - frame.length i + 1) ∙ (let low = below_limit most in omega (arith, low))
 
-  pub answered_place : (b.length ≤ done.at) × (done.at < c.length)
-  answered_place = (let at = applied.at in omega (arith, at), let at = applied.at in let more = frame.length in omega (arith, at, more))
+  pub answered_place : (at : ℕ) → at ≡ b.length → (b.length ≤ at) × (at < c.length)
+  answered_place at is = (omega (arith, is), let more = frame.length in omega (arith, is, more))
 
   -- a limit that was reached is reached still
   pub still_reached : (last : Option Spent) → is_reached b last ≡ true → is_reached c last ≡ true
@@ -67,17 +67,19 @@ module _ (b : Board) (caller : Caller) (call : Call) (done : Done) (before now :
 
       barred_then : (nat_eq at b.shape.calls ≡ true) × (nat_eq b.length at ≡ true) → ⊥
       barred_then h = (let p = h.0 in let q = h.1 in let long : nat_eq b.length b.shape.calls ≡ true = grind (p, q, arith, nat_tests) in
-          some_none (Calls b.shape.calls) (sym (ap (λ t. if t then Some (Calls b.shape.calls) else if would_publish b call && nat_eq b.publications b.shape.publications then Some (Publications b.shape.publications) else None) long) ∙ applied.step.in_limits))
-  still_reached (Some (Publications at)) is = (λ i. nat_eq at (frame.shape i).publications && nat_eq ((frame.publications ∙ ap (λ t. if t then b.publications + 1 else b.publications) (sym (steps_show_publications b e c applied.step) ∙ by (nat_eq b.length b.shape.calls) (would_publish b call) refl refl)) i) at) ∙ is
+          some_none (Calls b.shape.calls) (sym (ap (λ t. if t then Some (Calls b.shape.calls) else if would_publish b e.call && nat_eq b.publications b.shape.publications then Some (Publications b.shape.publications) else None) long) ∙ step.in_limits))
+  still_reached (Some (Publications at)) is = (λ i. nat_eq at (frame.shape i).publications && nat_eq ((frame.publications ∙ ap (λ t. if t then b.publications + 1 else b.publications) (sym (steps_show_publications b e c step) ∙ by (nat_eq b.length b.shape.calls) (would_publish b e.call) refl refl)) i) at) ∙ is
     where
-      e : Entry
-      e = entry_of caller call done.reply applied.told
-
       and_both : (s t : Bool) → (s && t) ≡ true → (s ≡ true) × (t ≡ true)
       and_both s t h1 = grind arith
 
       full : nat_eq b.publications b.shape.publications ≡ true
       full = (let h = and_both (nat_eq at b.shape.publications) (nat_eq b.publications at) is in let p = h.0 in let q = h.1 in grind (p, q, arith, nat_tests))
 
-      by : (s t : Bool) → nat_eq b.length b.shape.calls ≡ s → would_publish b call ≡ t → t ≡ false
+      by : (s t : Bool) → nat_eq b.length b.shape.calls ≡ s → would_publish b e.call ≡ t → t ≡ false
       by s t h1 h2 = grind arith
+
+-- and after entries
+pub stays_reached : (b : Board) (o : Option Spent) (es : List Entry) (c : Board) → Leads b es c → is_reached b o ≡ true → is_reached c o ≡ true
+stays_reached b o [] c same is = subst (λ (x : Board). is_reached x o ≡ true) same is
+stays_reached b o (e ∷ es) c (next, step, more) is = stays_reached next o es c more (still_reached b e next step o is)

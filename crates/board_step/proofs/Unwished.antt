@@ -51,10 +51,16 @@ module _ (b : Board) (who : Caller) (call : Call) (done : Done) (now : List Even
         refl,
       )
 
--- where the list was empty
-pub unwished_by : (b : Board) (who : Caller) (call : Call) (result : Result Done Spent) (before now : List Event) (c : Board) → IsSound b
+-- in a list that was empty
+pub unwished_by : (b : Board) (who : Caller) (call : Call) (result : Result Done Spent) (before now : List Event) (c : Board) → IsSound b → before ≡ []
     → IfOk result (λ done. Applied b who call done before now c) → IfOk result (λ done. Ran b who call [] done.reply before now)
-    → IfOk result (λ done. before ≡ [] → UnwishedStep b (entry_of who call done.reply now) c)
-unwished_by b who call (Ok done) before now c sound applied ran = λ empty.
+    → IfOk result (λ done. UnwishedStep b (entry_of who call done.reply now) c)
+unwished_by b who call (Ok done) before now c sound empty applied ran =
     unwished b who call done now c sound (subst (λ es. Applied b who call done es now c) empty applied) (subst (λ es. Ran b who call [] done.reply es now) empty ran)
-unwished_by b who call (Err spent) before now c sound applied ran = tt
+unwished_by b who call (Err spent) before now c sound empty applied ran = tt
+
+-- and the place
+pub placed_by : (b : Board) (who : Caller) (call : Call) (result : Result Done Spent) (before now : List Event) (c : Board)
+    → IfOk result (λ done. Applied b who call done before now c) → IfOk result (λ done. done.at ≡ b.length)
+placed_by b who call (Ok done) before now c applied = applied.at
+placed_by b who call (Err spent) before now c applied = tt

@@ -1,6 +1,7 @@
 -- One call on a board in code, and limits that are reached (this board's own rule).
-use Rattle.std.specs.Prelude.{◌≡◌, Bool, true, ◌&&◌, nat_eq, List, [], ◌∷◌, Some, None}
+use Rattle.std.specs.Prelude.{◌≡◌, Bool, true, ◌&&◌, nat_eq, List, [], ◌∷◌, Some, None, Ok, Err}
 use Rattle.std.specs.declared.option.Option.{Option}
+use Rattle.std.specs.declared.result.Result.{Result}
 use Rattle.irq_base.specs.Room.{with_told}
 use Rattle.irq_base.specs.declared.call.Call.{Call}
 use Rattle.irq_base.specs.declared.call.Caller.{Caller}
@@ -13,7 +14,7 @@ use Rattle.irq_base.specs.declared.reply.Spent.TheVariants.{Calls, Publications}
 use Rattle.board_model.specs.Board.{Board}
 use Rattle.board_model.specs.Run.{Wishes, run}
 use Rattle.board_step.specs.Bodies.{entry_of}
-use Rattle.board_step.specs.Step.{plan_on, Step}
+use Rattle.board_step.specs.Step.{plan_on, spent_of, Step}
 
 -- a call was answered: so many entries stood before it; it told events after those that stood in the list, but for what found
 -- no room; and its entry leads from the board before to the board after
@@ -37,6 +38,12 @@ pub record Ran (b : Board) (caller : Caller) (call : Call) (wishes : Wishes) (re
 -- under no wish
 abbrev pub UnwishedStep : Board → Entry → Board → Type 0
 UnwishedStep b e c = (step : Step b e c) × (step.wishes ≡ [])
+
+-- a call was asked of a board, which handed out these events and gave this answer: its entry leads to the board after, at the place that
+-- is answered; or this limit bars it, no event is handed out, and the board is as before
+abbrev pub IsAskedOf : Board → Caller → Call → List Event → Result Done Spent → Board → Type 0
+IsAskedOf b caller call events (Ok done) c = (done.at ≡ b.length) × UnwishedStep b (entry_of caller call done.reply events) c
+IsAskedOf b caller call events (Err spent) c = (spent_of b call ≡ Some spent) × (events ≡ []) × (c ≡ b)
 
 -- whether a limit that barred a call is one of the board's shape, and is reached; none need be
 abbrev pub is_reached : Board → Option Spent → Bool

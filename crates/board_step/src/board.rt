@@ -115,27 +115,26 @@ impl Board {
         let _ = &self.length;
     }
 
-    /// One call on the board. The call is allowed to its caller.
+    /// One call on the board. The call is allowed to its caller. The list of events is cleared first.
     ///
     /// `Ok` comes exactly where no limit of the board bars the call, with the reply and with the number of calls that were
-    /// answered before; then the board before, the entry of the call and the board after are a step, and the events of the step
-    /// stand after those that stood in the list, but for what finds no room for 640: where the list was empty, all of them are there.
-    /// No part outside the call's reach changes. Nothing is wished, so that the same call on the same board has one reply, one list of
-    /// events and one board after it.
+    /// answered before; then the board before, the entry of the call with all events that stand in the list, and the board after are
+    /// a step. No part outside the call's reach changes. Nothing is wished, so that the same call on the same board has one reply, one
+    /// list of events and one board after it.
     ///
     /// `Spent` names the limit that bars the call: that of calls, or, where the call would be a publication, that of
-    /// publications. Then nothing changes, and no event is told. It takes no memory.
+    /// publications. Then nothing changes, and the list is empty. It takes no memory.
     pub fn apply(&mut self, caller: Caller, call: &Call, events: &mut Events) -> Result<Done, Spent>
         requires { is_allowed caller call.now self.old.shape ≡ true }
         ensures spent { MatchResult result (λ _. spent_of self.old call.now ≡ None) (λ spent. spent_of self.old call.now ≡ Some spent) }
-        ensures ran { IfOk result (λ done. Ran self.old caller call.now [] done.reply events.old.items events.new.items) }
-        ensures applied { IfOk result (λ done. Applied self.old caller call.now done events.old.items events.new.items self.new) }
-        ensures whole { IfOk result (λ done. events.old.items ≡ []
-            → UnwishedStep self.old (entry_of caller call.now done.reply events.new.items) self.new) }
+        ensures at { IfOk result (λ done. done.at ≡ self.old.length) }
+        ensures whole { IfOk result (λ done.
+            UnwishedStep self.old (entry_of caller call.now done.reply events.new.items) self.new) }
         ensures outside { (p : AnyPart) → reach self.old caller call.now p ≡ false → part_of self.new p ≡ part_of self.old p }
         ensures stays { OnErr result (self.new ≡ self.old) }
-        ensures quiet { OnErr result (events.new ≡ events.old) }
+        ensures quiet { OnErr result (events.new.items ≡ []) }
     {
+        events.clear();
         self.keeps_sound();
         self.step(&[], caller, call, events)
     }

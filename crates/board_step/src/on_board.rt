@@ -14,12 +14,13 @@ pub struct OnBoard<'a> {
     pub board: &'a mut Board,
     pub caller: Caller,
     pub stops: Stops,
-    ghost there: { is_there caller board.now.shape ≡ true },
-    ghost reached: { is_reached board.now stops.last ≡ true },
+    pub ghost there: { is_there caller board.now.shape ≡ true },
+    pub ghost reached: { is_reached board.now stops.last ≡ true },
 }
 
 impl<'a> Face for OnBoard<'a> {
-    ghost use Rattle.std.specs.Prelude.{◌≡◌, ◌-◌, true, is_some, Some, None};
+    ghost use Rattle.std.specs.Prelude.{◌≡◌, ◌-◌, Some, None};
+    ghost use Rattle.board_step.specs.Applied.{IsAskedOf};
     ghost use Rattle.board_step.specs.Step.{spent_of};
 
     ghost shape = { λ f. f.board.now.shape };
@@ -38,14 +39,16 @@ impl<'a> Face for OnBoard<'a> {
 
     ghost left = { λ f. Some (f.board.now.shape.calls - f.board.now.length) };
 
-    ghost barred = { λ f call. is_some (spent_of f.board.now call) ≡ true };
+    ghost barred = { λ f call spent. spent_of f.board.now call ≡ Some spent };
+
+    // The call is one step of the board, with its reply and the events handed out; a limit leaves the board.
+    ghost keeps = { λ f call events answer g. IsAskedOf f.board.now f.caller call events answer g.board.now };
 
     fn caller(&self) -> Caller {
         self.caller
     }
 
     fn ask(&mut self, call: &Call, events: &mut Events) -> Result<Done, Spent> {
-        events.clear();
         self.board.keeps_sound();
         match self.board.apply(self.caller, call, events) {
             Ok(done) => Ok(done),

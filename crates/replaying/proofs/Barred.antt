@@ -1,8 +1,7 @@
--- A call that a limit bars stays barred, and a limit that is reached stays reached.
+-- A call that a limit bars stays barred.
 use Rattle.std.proofs.Common.{◌≡◌, ℕ, ◌+◌, Bool, true, false, ◌&&◌, nat_eq, if◌then◌else◌, List, [], ◌∷◌, ◌++◌, is_some, Some, None, refl, sym, ap, ◌∙◌, subst}
 use Rattle.std.specs.declared.option.Option.{Option}
 use Rattle.irq_base.specs.Refusals.{first_of}
-use Rattle.irq_base.specs.Room.{with_told}
 use Rattle.irq_base.specs.declared.call.Call.{Call}
 use Rattle.irq_base.specs.declared.call.Call.TheVariants as calls
 use Rattle.irq_base.specs.declared.lists.Entry.{Entry}
@@ -14,11 +13,9 @@ use Rattle.irqfd_set.specs.declared.irqfds.Irqfd.{Irqfd}
 use Rattle.ack_notifiers.specs.declared.watches.Watch.{Watch}
 use Rattle.board_model.specs.Board.{Board}
 use Rattle.board_calls.specs.Refusals.{range_reasons}
-use Rattle.board_step.specs.Applied.{is_reached}
 use Rattle.board_step.specs.History.{opening, Leads}
 use Rattle.board_step.specs.Publications.{KeepsTheFrame}
 use Rattle.board_step.specs.Step.{would_publish, does_publish, publishes_unless, refusal_of, later_reasons, spent_of, is_publication, Step}
-use Rattle.board_step.proofs.Faces.{still_reached}
 use Rattle.board_step.proofs.Publishing.{steps_show_publications, steps_keep_the_frame}
 use Rattle.replaying.proofs.Registrations.{registered, registered_stay}
 
@@ -89,11 +86,3 @@ barred_after b call e c step barred =
 pub stays_barred : (b : Board) (call : Call) (es : List Entry) (c : Board) → Leads b es c → is_some (spent_of b call) ≡ true → is_some (spent_of c call) ≡ true
 stays_barred b call [] c same barred = subst (λ (x : Board). is_some (spent_of x call) ≡ true) same barred
 stays_barred b call (e ∷ es) c (next, step, more) barred = stays_barred next call es c more (barred_after b call e next step barred)
-
--- a limit that is reached is reached after entries
-pub stays_reached : (b : Board) (o : Option Spent) (es : List Entry) (c : Board) → Leads b es c → is_reached b o ≡ true → is_reached c o ≡ true
-stays_reached b o [] c same is = subst (λ (x : Board). is_reached x o ≡ true) same is
-stays_reached b o (e ∷ es) c (next, step, more) is =
-    stays_reached next o es c more
-    (still_reached b e.caller e.call (record { reply = e.reply; at = b.length }) [] (with_told [] e.events) next
-    (record { at = refl; told = e.events; events = refl; step = step }) o is)

@@ -13,7 +13,7 @@ use Rattle.board_model.specs.Board.{Board}
 use Rattle.board_step.specs.Applied.{is_reached}
 use Rattle.board_step.specs.History.{opening, board_after, Leads}
 use Rattle.board_step.specs.Step.{spent_of}
-use Rattle.board_step.proofs.Faces.{spent_reached}
+use Rattle.board_step.proofs.Faces.{spent_reached, stays_reached}
 use Rattle.board_step.proofs.Following.{board_after_is_reached}
 use Rattle.replaying.specs.declared.stops.Stop.{Stop}
 use Rattle.replaying.specs.FileOrder.{stop_of, with_stop, Leaves, Asked, LineAsked, PassedOver, LinesAsked, first_stop}
@@ -24,7 +24,7 @@ use Rattle.script_merging.proofs.Asking.{tasks_nothing, tasks_of_line, unrolled_
 use Rattle.script_merging.proofs.Merged.{no_replies, merges_append}
 use Rattle.script_histories.proofs.Leading.{leads_append}
 use Rattle.replaying.specs.Replays.{Replays}
-use Rattle.replaying.proofs.Barred.{stays_barred, stays_reached}
+use Rattle.replaying.proofs.Barred.{stays_barred}
 use Rattle.replaying.proofs.Merged.{after, in_turn, others_stay}
 use Rattle.replaying.proofs.Unwished.{leads_of}
 

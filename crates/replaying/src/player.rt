@@ -79,7 +79,6 @@ impl Player {
         ensures answered { IfOk result (λ answer.
             Answered caller call.now self.old.board self.old.history answer self.new.board self.new.history) }
     {
-        self.events.clear();
         match self.board.apply(caller, call, &mut self.events) {
             Err(spent) => Ok(Err(spent)),
             Ok(done) => {

@@ -1,25 +1,34 @@
-use Rattle.board_step.proofs.Basics.{◌≡◌, true, sym, ◌∙◌, subst, is_there, Board, is_reached}
+use Rattle.board_step.proofs.Basics.{◌≡◌, true, sym, ◌∙◌, subst, entry_of, is_there, Board, is_reached}
 use Rattle.board_step.proofs.Faces.{spent_reached, never_barred, answered_shape, answered_there, answered_left, answered_place, still_reached}
 use Rattle.board_step.proofs.on_board.OnBoardFace.ask.Goals as goal
 
 pub returns-in-Ok-clause-shape : goal.returns-in-Ok-clause-shape
-returns-in-Ok-clause-shape c = answered_shape c.args.self.now.board.now c.args.self.now.caller c.args.call.now c.in-Ok.done _ _ c.apply.new.self c.in-Ok.ensures.applied
+returns-in-Ok-clause-shape c =
+    let f = c.args.self.now in
+    answered_shape f.board.now (entry_of f.caller c.args.call.now c.in-Ok.done.reply c.apply.new.events.items) c.apply.new.self c.in-Ok.ensures.whole.0
 
 pub returns-in-Ok-clause-place : goal.returns-in-Ok-clause-place
-returns-in-Ok-clause-place c = answered_place c.args.self.now.board.now c.args.self.now.caller c.args.call.now c.in-Ok.done _ _ c.apply.new.self c.in-Ok.ensures.applied
+returns-in-Ok-clause-place c =
+    let f = c.args.self.now in
+    answered_place f.board.now (entry_of f.caller c.args.call.now c.in-Ok.done.reply c.apply.new.events.items) c.apply.new.self c.in-Ok.ensures.whole.0 c.in-Ok.done.at c.in-Ok.ensures.at
 
 pub returns-in-Ok-clause-left : goal.returns-in-Ok-clause-left
-returns-in-Ok-clause-left c = answered_left c.args.self.now.board.now c.args.self.now.caller c.args.call.now c.in-Ok.done _ _ c.apply.new.self c.in-Ok.ensures.applied c.keeps_sound.ensures.calls
+returns-in-Ok-clause-left c =
+    let f = c.args.self.now in
+    answered_left f.board.now (entry_of f.caller c.args.call.now c.in-Ok.done.reply c.apply.new.events.items) c.apply.new.self c.in-Ok.ensures.whole.0 c.keeps_sound.ensures.calls
 
 pub returns-in-Err-clause-answers : goal.returns-in-Err-clause-answers
 returns-in-Err-clause-answers c = λ left quiet. absurd (never_barred c.args.self.now.board.now c.args.call.now c.in-Err.spent c.in-Err.ensures.spent left quiet)
 
 pub invariant_of-self : goal.invariant_of-self
 invariant_of-self c =
-    let b = c.args.self.now.board.now in
+    let f = c.args.self.now in
+    let b = f.board.now in
+    let e = entry_of f.caller c.args.call.now c.in-Ok.done.reply c.apply.new.events.items in
+    let step = c.in-Ok.ensures.whole.0 in
     record {
-      there = answered_there b c.args.self.now.caller c.args.call.now c.in-Ok.done _ _ c.apply.new.self c.in-Ok.ensures.applied c.args.self.now.caller c.args.self.now.there;
-      reached = still_reached b c.args.self.now.caller c.args.call.now c.in-Ok.done _ _ c.apply.new.self c.in-Ok.ensures.applied c.args.self.now.stops.last c.args.self.now.reached;
+      there = answered_there b e c.apply.new.self step f.caller f.there;
+      reached = still_reached b e c.apply.new.self step f.stops.last f.reached;
     }
 
 pub invariant_of-self-in-Err : goal.invariant_of-self-in-Err
