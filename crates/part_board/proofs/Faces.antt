@@ -6,7 +6,6 @@ use Rattle.std.proofs.lemmas.List.Elements.{filter-append}
 use Rattle.std.specs.declared.option.Option.{Option}
 use Rattle.atomic_table.specs.Seated.{TableId}
 use Rattle.irq_base.specs.Faces.{PlacedEntry}
-use Rattle.irq_base.specs.Room.{with_told}
 use Rattle.irq_base.specs.declared.call.Call.{Call}
 use Rattle.irq_base.specs.declared.call.Caller.{Caller}
 use Rattle.irq_base.specs.declared.event.Event.{Event}
@@ -19,7 +18,7 @@ use Rattle.board_step.specs.Applied.{is_reached}
 use Rattle.board_step.specs.Bodies.{entry_of}
 use Rattle.board_step.specs.History.{opening, Leads, Legal, board_after}
 use Rattle.board_step.specs.Step.{spent_of}
-use Rattle.board_step.proofs.Faces.{spent_reached, still_reached}
+use Rattle.board_step.proofs.Faces.{spent_reached, stays_reached}
 use Rattle.board_step.proofs.Following.{board_after_is_reached, next_is}
 use Rattle.turn_book.specs.Histories.{IsPrefix}
 use Rattle.turn_book.proofs.Lists.{prefix-length}
@@ -115,14 +114,6 @@ module _ (who : Caller) (call : Call) (done : Done) (events : List Event) (befor
 
 -- ---- limits
 
--- a limit that is reached stays reached
-stays_reached : (b : Board) (o : Option Spent) (es : List Entry) (c : Board) → Leads b es c → is_reached b o ≡ true → is_reached c o ≡ true
-stays_reached b o [] c same is = subst (λ (x : Board). is_reached x o ≡ true) same is
-stays_reached b o (e ∷ es) c (next, step, more) is =
-    stays_reached next o es c more
-    (still_reached b e.caller e.call (record { reply = e.reply; at = b.length }) [] (with_told [] e.events) next
-    (record { at = refl; told = e.events; events = refl; step = step }) o is)
-
 -- a list that begins with another leads on from its board
 leads_on : (b : Board) (xs ys : List Entry) (c : Board) → Leads b (xs ++ ys) c → Leads (board_after b xs) ys c
 leads_on b [] ys c leads = leads
@@ -135,11 +126,10 @@ seen_reached shape before now o (rest, is) (last, leads) reached =
     (stays_reached (board_after (opening shape) before) o rest last
     (leads_on (opening shape) before rest last (subst (λ es. Leads (opening shape) es last) (sym is) leads)) reached)
 
--- a limit that bars a call is reached
+-- the limit that bars a call, and it is reached
 pub barred_now : (shape : Shape) (call : Call) (spent : Spent) (now : List Entry) → IsBarred shape call spent now
-    → (is_some (spent_of (board_after (opening shape) now) call) ≡ true) × (is_reached (board_after (opening shape) now) (Some spent) ≡ true)
-barred_now shape call spent now barred =
-    (ap is_some limit, spent_reached (board_after (opening shape) now) call spent limit)
+    → (spent_of (board_after (opening shape) now) call ≡ Some spent) × (is_reached (board_after (opening shape) now) (Some spent) ≡ true)
+barred_now shape call spent now barred = (limit, spent_reached (board_after (opening shape) now) call spent limit)
   where
     limit : spent_of (board_after (opening shape) now) call ≡ Some spent
     limit = ap (λ b. spent_of b call) (board_after_is_reached (opening shape) now barred.last barred.after) ∙ barred.limit

@@ -1,15 +1,24 @@
 -- What a face of a running board tells (this board's own rule).
-use Rattle.std.specs.Prelude.{ℕ, ◌+◌, List, [], ◌∷◌, filter}
+use Rattle.std.specs.Prelude.{◌≡◌, ℕ, ◌+◌, List, [], ◌∷◌, filter, Ok, IfOk, IfErr, OnErr}
+use Rattle.std.specs.declared.result.Result.{Result}
 use Rattle.atomic_table.specs.Seated.{TableId}
 use Rattle.irq_base.specs.Faces.{PlacedEntry}
+use Rattle.irq_base.specs.declared.call.Call.{Call}
 use Rattle.irq_base.specs.declared.call.Caller.{Caller}
+use Rattle.irq_base.specs.declared.event.Event.{Event}
 use Rattle.irq_base.specs.declared.lists.Entry.{Entry}
+use Rattle.irq_base.specs.declared.reply.Done.{Done}
+use Rattle.irq_base.specs.declared.reply.Spent.{Spent}
 use Rattle.board_model.specs.Board.{Board}
-use Rattle.board_step.specs.History.{opening, board_after}
+use Rattle.board_step.specs.History.{opening, Legal, board_after}
+use Rattle.turn_book.specs.Histories.{IsPrefix}
 use Rattle.part_slots.specs.Callers.{is_caller}
+use Rattle.part_attempt.specs.Attempts.{IsBarred}
+use Rattle.part_reach.specs.Turns.{AddsReached, seen_before_own}
 use Rattle.part_board.specs.declared.live.LiveBoard.{LiveBoard}
 use Rattle.part_board.specs.declared.pass.Pass.{Pass}
-use Rattle.part_board.specs.Seen.{pass_seen}
+use Rattle.part_board.specs.Seen.{pass_view, pass_seen, IsPassOf, Learnt}
+use Rattle.part_board.specs.Tried.{IsEntered}
 
 -- ---- the name of a running board
 
@@ -41,3 +50,22 @@ own_in who history = filter (λ (p : PlacedEntry). is_caller p.entry.caller who)
 -- the board that the list of a pass leaves
 abbrev pub board_seen : Pass → Board
 board_seen pass = board_after (opening pass.shape) (pass_seen pass)
+
+-- ---- a call by a pass
+
+-- a call by a pass of the board handed out these events and gave this answer: what the board promises of it
+pub record IsCalledOn (board : LiveBoard) (before : Pass) (call : Call) (events : List Event) (answer : Result Done Spent) (now : Pass)
+    : Type 0 where
+  pub pass : IsPassOf board now
+  pub caller : now.caller ≡ before.caller
+  pub seen : IsPrefix (pass_seen before) (pass_seen now)
+  pub legal : Legal board.shape (pass_seen now)
+  pub entered : IfOk answer (λ done. IsEntered before.caller call done events (pass_seen before) (pass_seen now))
+  pub barred : IfErr answer (λ spent. IsBarred board.shape call spent (pass_seen now))
+  pub learnt : OnErr answer (Learnt board.shape before.caller (pass_seen before) (pass_seen now))
+  pub quiet : OnErr answer (events ≡ [])
+  -- the turns that it won, and those that it found taken, are of parts that the call reached
+  pub took : AddsReached board.shape before.caller call (pass_seen before) (seen_before_own (Ok answer) (pass_seen now))
+      (pass_view before).took (pass_view now).took
+  pub found : AddsReached board.shape before.caller call (pass_seen before) (seen_before_own (Ok answer) (pass_seen now))
+      (pass_view before).found (pass_view now).found

@@ -1,8 +1,9 @@
 //! One caller's way to a running board.
 ghost use Rattle.std.specs.Prelude.{◌≡◌, true, None};
+ghost use Rattle.irq_base.specs.Callers.{is_allowed};
 ghost use Rattle.board_step.specs.Applied.{is_reached};
 ghost use Rattle.part_board.specs.Seen.{IsPassOf};
-ghost use Rattle.part_board.specs.Facing.{home_of, home_of_pass, board_seen};
+ghost use Rattle.part_board.specs.Facing.{home_of, home_of_pass, board_seen, IsCalledOn};
 
 use crate::live::LiveBoard;
 use crate::pass::Pass;
@@ -51,11 +52,26 @@ impl<'a, R: Wait> OnLive<'a, R> {
     }
 }
 
+// The call by the pass, with all that the board promises of it.
+fn called<R: Wait>(
+    board: &LiveBoard,
+    rt: &R,
+    pass: &mut Pass,
+    call: &Call,
+    events: &mut Events,
+) -> Result<Done, Spent>
+    requires pass { IsPassOf board.now pass.old }
+    requires allowed { is_allowed pass.old.caller call.now board.now.shape ≡ true }
+    ensures { IsCalledOn board.now pass.old call.now events.new.items result pass.new }
+{
+    board.call(rt, pass, call, events)
+}
+
 impl<'a, R: Wait> Face for OnLive<'a, R> {
-    ghost use Rattle.std.specs.Prelude.{◌≡◌, length, true, is_some, Some, None};
+    ghost use Rattle.std.specs.Prelude.{◌≡◌, length, Some, None};
     ghost use Rattle.board_step.specs.Step.{spent_of};
     ghost use Rattle.part_board.specs.Seen.{pass_seen};
-    ghost use Rattle.part_board.specs.Facing.{home_of, own_in, board_seen};
+    ghost use Rattle.part_board.specs.Facing.{home_of, own_in, board_seen, IsCalledOn};
 
     ghost shape = { λ f. f.board.now.shape };
 
@@ -73,14 +89,17 @@ impl<'a, R: Wait> Face for OnLive<'a, R> {
 
     ghost left = { λ _. None };
 
-    ghost barred = { λ f call. is_some (spent_of (board_seen f.pass) call) ≡ true };
+    ghost barred = { λ f call spent. spent_of (board_seen f.pass) call ≡ Some spent };
+
+    // It is the same board, and the call is as `LiveBoard::call` promises.
+    ghost keeps = { λ f call events answer g. (g.board.now ≡ f.board.now) × IsCalledOn f.board.now f.pass call events answer g.pass };
 
     fn caller(&self) -> Caller {
         self.pass.caller()
     }
 
     fn ask(&mut self, call: &Call, events: &mut Events) -> Result<Done, Spent> {
-        match self.board.call(self.rt, &mut self.pass, call, events) {
+        match called(self.board, self.rt, &mut self.pass, call, events) {
             Ok(done) => Ok(done),
             Err(spent) => {
                 self.stops.stop(spent);

@@ -1,4 +1,4 @@
-use Rattle.std.proofs.Common.{◌≡◌, true, is_some, sym, ap, ◌∙◌}
+use Rattle.std.proofs.Common.{◌≡◌, true, refl, sym, ap, ◌∙◌}
 use Rattle.board_step.specs.Applied.{is_reached}
 use Rattle.board_step.specs.History.{opening, board_after}
 use Rattle.board_step.specs.Step.{spent_of}
@@ -10,26 +10,26 @@ use Rattle.part_board.proofs.on_live.OnLiveFace.ask.Goals as goal
 pub returns-in-Ok-clause-own : goal.returns-in-Ok-clause-own
 returns-in-Ok-clause-own g c =
     let f = c.args.self.now in
-    ap (λ w. own_in w (pass_seen c.call.new.pass)) c.in-Ok.ensures.caller
-    ∙ entered_own f.pass.caller c.args.call.now c.in-Ok.done c.call.new.events.items (pass_seen f.pass) (pass_seen c.call.new.pass) c.in-Ok.ensures.entered
+    ap (λ w. own_in w (pass_seen c.called.new.pass)) c.in-Ok.ensures.caller
+    ∙ entered_own f.pass.caller c.args.call.now c.in-Ok.done c.called.new.events.items (pass_seen f.pass) (pass_seen c.called.new.pass) c.in-Ok.ensures.entered
 
 pub returns-in-Err-clause-own : goal.returns-in-Err-clause-own
 returns-in-Err-clause-own g c =
     let f = c.args.self.now in
-    ap (λ w. own_in w (pass_seen c.call.new.pass)) c.in-Err.ensures.caller
-    ∙ own_stays f.pass.caller (pass_seen f.pass) (pass_seen c.call.new.pass) c.in-Err.ensures.learnt.seen c.in-Err.ensures.learnt.own
+    ap (λ w. own_in w (pass_seen c.called.new.pass)) c.in-Err.ensures.caller
+    ∙ own_stays f.pass.caller (pass_seen f.pass) (pass_seen c.called.new.pass) c.in-Err.ensures.learnt.seen c.in-Err.ensures.learnt.own
 
 pub returns-in-Err-clause-barred : goal.returns-in-Err-clause-barred
 returns-in-Err-clause-barred g c =
     let f = c.args.self.now in
-    let now = pass_seen c.call.new.pass in
-    ap (λ sh. is_some (spent_of (board_after (opening sh) now) c.args.call.now)) c.in-Err.ensures.pass.shape
+    let now = pass_seen c.called.new.pass in
+    ap (λ sh. spent_of (board_after (opening sh) now) c.args.call.now) c.in-Err.ensures.pass.shape
     ∙ (barred_now f.board.now.shape c.args.call.now c.in-Err.spent now c.in-Err.ensures.barred).0
 
 pub invariant_of-self : goal.invariant_of-self
 invariant_of-self g c =
     let f = c.args.self.now in
-    let now = pass_seen c.call.new.pass in
+    let now = pass_seen c.called.new.pass in
     let last = f.stops.last in
     record {
       book = ap numbers_of c.in-Ok.ensures.pass.book;
@@ -42,10 +42,16 @@ invariant_of-self g c =
 pub invariant_of-self-in-Err : goal.invariant_of-self-in-Err
 invariant_of-self-in-Err g c =
     let f = c.args.self.now in
-    let now = pass_seen c.call.new.pass in
+    let now = pass_seen c.called.new.pass in
     record {
       book = ap numbers_of c.in-Err.ensures.pass.book;
       shape = c.in-Err.ensures.pass.shape;
       reached = (λ i. is_reached (board_after (opening (c.in-Err.ensures.pass.shape i)) now) (c.stop.ensures.last i))
           ∙ (barred_now f.board.now.shape c.args.call.now c.in-Err.spent now c.in-Err.ensures.barred).1;
     }
+
+pub returns-in-Ok-clause-keeps : goal.returns-in-Ok-clause-keeps
+returns-in-Ok-clause-keeps g c = (refl, c.in-Ok.ensures)
+
+pub returns-in-Err-clause-keeps : goal.returns-in-Err-clause-keeps
+returns-in-Err-clause-keeps g c = (refl, c.in-Err.ensures)
