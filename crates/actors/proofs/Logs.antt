@@ -56,7 +56,7 @@ module _ {F : Type 0} (face : Ghosts F) (s : Script) where
   stops_of [] [] h = refl
   stops_of (f ∷ fs) (p ∷ ps) (h, more) =
       (λ i. first_of (h.spent_is i) (stops_of fs ps more i))
-      ∙ first_with (face.stops p.face) (face.last p.face) (first_stop face (map (λ (p : Played F). p.face) ps)) (λ some. (h.ran.stopped some).limit)
+      ∙ first_with (face.stops p.face) (face.last p.face) (first_stop face (map (λ (p : Played F). p.face) ps)) (λ some. ap is_some (h.ran.stopped some).last)
   stops_of [] (p ∷ ps) h = absurd h
   stops_of (f ∷ fs) [] h = absurd h
 

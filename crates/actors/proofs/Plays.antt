@@ -1,5 +1,5 @@
 -- An actor among its calls.
-use Rattle.std.proofs.Common.{◌≡◌, ℕ, ◌+◌, ◌<◌, ◌≤◌, Bool, true, false, true≢false, ◌&&◌, List, [], ◌∷◌, ◌++◌, append_assoc, length, map, is_some, Some, None, refl, sym, ap, ◌∙◌, subst, arith}
+use Rattle.std.proofs.Common.{◌≡◌, ℕ, ◌+◌, ◌<◌, ◌≤◌, Bool, true, false, true≢false, ◌&&◌, List, [], ◌∷◌, ◌++◌, append_assoc, length, map, Some, None, refl, sym, ap, ◌∙◌, subst, arith}
 use Rattle.std.proofs.lemmas.List.{append-nil, map-append, length-append}
 use Rattle.std.specs.Prelude.{Ok, Err, if◌then◌else◌, nat_eq, nat_lt, ◌-◌}
 use Rattle.std.proofs.lemmas.Bool.Decides.{nat_tests}
@@ -17,6 +17,8 @@ use Rattle.irq_base.specs.declared.reply.Done.{Done}
 use Rattle.irq_base.specs.declared.reply.Spent.{Spent}
 use Rattle.irq_base.specs.declared.shape.Shape.{Shape}
 use Rattle.irq_base.specs.declared.reply.Reply.{Reply}
+use Rattle.face_asks.specs.Asks.{HasKept, answered_by}
+use Rattle.face_asks.proofs.Told.{told_then, told_same, kept_none, kept_one, kept_then}
 use Rattle.script_text.specs.declared.progress.Progress.{Progress}
 use Rattle.script_text.specs.Asks.{next_ask, asks_after, answered as replied, unrolled, tasks_of, HasFollowed}
 use Rattle.script_text.specs.Scripts.{Script}
@@ -44,25 +46,6 @@ pub rise_higher : (low mid high : ℕ) (ps : List PlacedEntry) → RiseWithin lo
 rise_higher low mid high [] rise le = omega (arith, rise, le)
 rise_higher low mid high (q ∷ ps) (first, rise) le = (first, rise_higher (q.at + 1) mid high ps rise le)
 
--- what is told after one change and then another
-pub told_then : {A : Type 0} (a b c : Option A) (P Q R : A → A → Type 0) → ((x y z : A) → P x y → Q y z → R x z) → WhereTold a b P → WhereTold b c Q → WhereTold a c R
-told_then (Some x) (Some y) (Some z) P Q R both p q = both x y z p q
-told_then None None None P Q R both p q = tt
-told_then (Some x) (Some y) None P Q R both p q = q
-told_then (Some x) None c P Q R both p q = absurd p
-told_then None (Some y) c P Q R both p q = absurd p
-told_then None None (Some z) P Q R both p q = q
-
-pub told_weaker : {A : Type 0} (a b : Option A) (P Q : A → A → Type 0) → ((x y : A) → P x y → Q x y) → WhereTold a b P → WhereTold a b Q
-told_weaker (Some x) (Some y) P Q weaker p = weaker x y p
-told_weaker None None P Q weaker p = tt
-told_weaker (Some x) None P Q weaker p = absurd p
-told_weaker None (Some y) P Q weaker p = absurd p
-
-told_same : {A : Type 0} (a : Option A) (P : A → A → Type 0) → ((x : A) → P x x) → WhereTold a a P
-told_same (Some x) P same = same x
-told_same None P same = tt
-
 -- what an actor asks next, by its number
 pub next_at : (who at : Caller) (s : Script) (replies : List Reply) (progress : Progress) (next : Option Call) → who ≡ at
     → ((rs : List Reply) → HasFollowed at s.lines rs progress → next ≡ next_ask at s.lines rs) → HasFollowed who s.lines replies progress → next ≡ next_ask who s.lines replies
@@ -85,6 +68,7 @@ module _ {F : Type 0} (face : Ghosts F) (s : Script) where
     pub fewer : WhereTold (face.left before) (face.left now) (λ had has. has + length answered ≡ had)
     pub asked : AskedInTurn s (face.who before) [] answered
     pub places : RiseWithin (face.floor before) (face.floor now) answered
+    pub as_promised : HasKept face before now answered
     pub followed : HasFollowed (face.who before) s.lines (replies_in answered) progress
     pub most : AsksAtMost left (asks_after (face.who before) s.lines (replies_in answered))
     pub whole : kept.lost ≡ false → placed_in kept.entries.items ≡ answered
@@ -101,6 +85,7 @@ module _ {F : Type 0} (face : Ghosts F) (s : Script) where
     fewer = told_same (face.left f) (λ had has. has + length {A = PlacedEntry} [] ≡ had) (λ had. omega arith);
     asked = tt;
     places = omega arith;
+    as_promised = kept_none face f;
     followed = follows;
     most = most;
     whole = λ _. ap placed_list empty;
@@ -142,12 +127,13 @@ module _ {F : Type 0} (face : Ghosts F) (s : Script) where
         → IsPlaced (Ok done) (face.floor now) (face.floor next) → StopsTell (Ok done) (face.stops now) (face.stops next) (face.last now) (face.last next)
         → WhereTold (face.own now) (face.own next) (λ had has. has ≡ own_after (face.who now) call events (Ok done) had)
         → WhereTold (face.left now) (face.left next) (LeftFalls (Ok done))
+        → face.keeps now call events (Ok done) next
         → caller ≡ face.who before
         → (more.lost ≡ false → kept.lost ≡ false)
         → (more.lost ≡ false → placed_in more.entries.items ≡ own_after caller call events (Ok done) (placed_in kept.entries.items))
         → ((rs : List Reply) → HasFollowed (face.who before) s.lines rs progress → HasFollowed (face.who before) s.lines (rs ++ done.reply ∷ []) later)
         → Plays before next more later (left - 1)
-    answer who shape home place stops own falls mine were kept_more follows = record {
+    answer who shape home place stops own falls promised mine were kept_more follows = record {
       answered = plays.answered ++ told ∷ [];
       caller = who ∙ plays.caller;
       shape = shape ∙ plays.shape;
@@ -157,6 +143,8 @@ module _ {F : Type 0} (face : Ghosts F) (s : Script) where
       fewer = fewer falls;
       asked = asked_more s (face.who before) [] plays.answered told plays.asked refl (sym is_next);
       places = rise_more (face.floor before) (face.floor now) (face.floor next) plays.answered told plays.places place.0 place.1;
+      as_promised = subst (λ w. HasKept face before next (plays.answered ++ answered_by w call events (Ok done))) plays.caller
+          (kept_then face before now next plays.answered (answered_by (face.who now) call events (Ok done)) plays.caller plays.as_promised (kept_one face now next call events (Ok done) promised));
       followed = subst (λ rs. HasFollowed (face.who before) s.lines rs later) (sym replies) (follows (replies_in plays.answered) plays.followed);
       most = subst (AsksAtMost (left - 1)) (sym (ap (asks_after (face.who before) s.lines) replies ∙ asks_next)) (less.1 (left - 1) (let some = less.0 in omega (arith, some)));
       whole = λ kept_all. kept_more kept_all ∙ (λ i. own_after (mine i) call events (Ok done) (plays.whole (were kept_all) i));
@@ -169,8 +157,8 @@ module _ {F : Type 0} (face : Ghosts F) (s : Script) where
         → IsPlaced (Err spent) (face.floor now) (face.floor next) → StopsTell (Err spent) (face.stops now) (face.stops next) (face.last now) (face.last next)
         → WhereTold (face.own now) (face.own next) (λ had has. has ≡ own_after (face.who now) call events (Err spent) had)
         → WhereTold (face.left now) (face.left next) (LeftFalls (Err spent))
-        → face.barred next call → HasPlayed face s before next kept (Some spent)
-    barred spent who shape home place stops own falls bars = record {
+        → face.barred next call spent → face.keeps now call events (Err spent) next → HasPlayed face s before next kept (Some spent)
+    barred spent who shape home place stops own falls bars promised = record {
       answered = plays.answered;
       ran = record {
         caller = who ∙ plays.caller;
@@ -180,12 +168,15 @@ module _ {F : Type 0} (face : Ghosts F) (s : Script) where
         left = told_then (face.left before) (face.left now) (face.left next) (λ had has. has + length plays.answered ≡ had) (LeftFalls (Err spent)) (λ had has. has + length plays.answered ≡ had) (λ x y z first second. omega (arith, first, second)) plays.fewer falls;
         asked = plays.asked;
         places = rise_higher (face.floor before) (face.floor now) (face.floor next) plays.answered plays.places place;
+        kept = subst (HasKept face before next) (append-nil plays.answered)
+            (kept_then face before now next plays.answered [] plays.caller plays.as_promised (kept_one face now next call events (Err spent) promised));
         all = λ none. absurd (let up = some_stop in omega (arith, up, none));
         stopped = λ _. record {
           call = call;
           next = ap (λ w. next_ask w s.lines (replies_in plays.answered)) (who ∙ plays.caller) ∙ sym is_next;
+          spent = spent;
+          last = stops.1;
           barred = bars;
-          limit = ap is_some stops.1;
         };
       };
       whole = plays.whole;
@@ -212,6 +203,7 @@ module _ {F : Type 0} (face : Ghosts F) (s : Script) where
       left = plays.fewer;
       asked = plays.asked;
       places = plays.places;
+      kept = plays.as_promised;
       all = λ _. sym none;
       stopped = λ some. absurd (let none = plays.stops in omega (arith, some, none));
     };

@@ -21,7 +21,7 @@ use Rattle.script_merging.proofs.Actors.{actors-distinct, of-actors}
 use Rattle.actors.specs.Turns.{entries_in, replies_in, AskedInTurn, HasRun}
 use Rattle.actors.specs.Runs.{all_of, AreOrdered, HaveRun, AreOwn, AreGathered, first_stop, entries_by, Gains, AreBack}
 use Rattle.actors.proofs.Orders.{RiseFrom, rise_of, rise_lower, rise_within, filtered_one}
-use Rattle.actors.proofs.Plays.{told_weaker}
+use Rattle.face_asks.proofs.Told.{told_weaker}
 
 -- whether a call is that caller's
 abbrev is_by : Caller → PlacedEntry → Bool
@@ -173,6 +173,8 @@ module _ {F : Type 0} (face : Ghosts F) (s : Script) where
       barred = λ some. record {
         call = (run.stopped some).call;
         next = ap (next_of s history) run.caller ∙ next_is (face.who f) history ordered ps is own ∙ ap (λ w. next_ask w s.lines (replies_in ps)) (sym run.caller) ∙ (run.stopped some).next;
+        spent = (run.stopped some).spent;
+        last = (run.stopped some).last;
         barred = (run.stopped some).barred;
       };
     },
@@ -198,7 +200,7 @@ module _ {F : Type 0} (face : Ghosts F) (s : Script) where
 
       by : (first_stop face gs ≡ None → (j : ℕ) → j < length (map face.who fs) → next_of s history (slice_index_or (map face.who fs) j (Device 0)) ≡ None) → (t : Bool) → nat_eq (face.stops g) 0 ≡ t → (if t then first_stop face gs else face.last g) ≡ None → next_of s history (slice_index_or (map face.who (f ∷ fs)) k (Device 0)) ≡ None
       by rest true is none = at (grind (is, arith, nat_tests)) (rest none) k low
-      by rest false is none = absurd (some_none (face.last g) (run.stopped (grind (is, arith, nat_tests))).limit none)
+      by rest false is none = absurd (some_none (face.last g) (ap is_some (run.stopped (grind (is, arith, nat_tests))).last) none)
   none_left history [] gs lists ran back none k low = absurd (omega (arith, low))
   none_left history (f ∷ fs) [] lists ran back none k low = absurd ran
   none_left history (f ∷ fs) (g ∷ gs) [] ran back none k low = absurd ran

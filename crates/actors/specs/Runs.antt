@@ -72,11 +72,13 @@ module _ {F : Type 0} (face : Ghosts F) where
   first_stop [] = None
   first_stop (f ∷ fs) = if nat_eq (face.stops f) 0 then first_stop fs else face.last f
 
-  -- the actor has a next call behind a history, which a limit bars, as its face tells
+  -- the actor has a next call behind a history, which the last limit that its face tells bars
   pub record IsBarred (s : Script) (history : List Entry) (f : F) : Type 0 where
     pub call : Call
     pub next : next_of s history (face.who f) ≡ Some call
-    pub barred : face.barred f call
+    pub spent : Spent
+    pub last : face.last f ≡ Some spent
+    pub barred : face.barred f call spent
 
   -- a face is handed back after a run that left this history
   pub record IsBack (s : Script) (history : List Entry) (before after : F) : Type 0 where

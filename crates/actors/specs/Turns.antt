@@ -1,11 +1,13 @@
 -- The calls of one actor, and what its face tells of them (this board's own rule).
-use Rattle.std.specs.Prelude.{◌≡◌, ℕ, ◌+◌, ◌<◌, ◌≤◌, true, List, [], ◌∷◌, ◌++◌, length, map, is_some, Some, None}
+use Rattle.std.specs.Prelude.{◌≡◌, ℕ, ◌+◌, ◌<◌, ◌≤◌, List, [], ◌∷◌, ◌++◌, length, map, Some, None}
 use Rattle.irq_base.specs.Faces.{PlacedEntry, WhereTold}
 use Rattle.irq_base.specs.declared.call.Call.{Call}
 use Rattle.irq_base.specs.declared.call.Caller.{Caller}
 use Rattle.irq_base.specs.declared.face.Face.{Ghosts}
 use Rattle.irq_base.specs.declared.lists.Entry.{Entry}
 use Rattle.irq_base.specs.declared.reply.Reply.{Reply}
+use Rattle.irq_base.specs.declared.reply.Spent.{Spent}
+use Rattle.face_asks.specs.Asks.{HasKept}
 use Rattle.script_text.specs.Asks.{next_ask}
 use Rattle.script_text.specs.Scripts.{Script}
 
@@ -33,12 +35,13 @@ RiseWithin low high (p ∷ ps) = (low ≤ p.at) × RiseWithin (p.at + 1) high ps
 -- ---- what a face tells
 
 module _ {F : Type 0} (face : Ghosts F) where
-  -- the actor has a next call, which a limit bars, as its face tells
+  -- the actor has a next call, which the last limit that its face tells bars
   pub record IsStopped (s : Script) (f : F) (answered : List PlacedEntry) : Type 0 where
     pub call : Call
     pub next : next_ask (face.who f) s.lines (replies_in answered) ≡ Some call
-    pub barred : face.barred f call
-    pub limit : is_some (face.last f) ≡ true
+    pub spent : Spent
+    pub last : face.last f ≡ Some spent
+    pub barred : face.barred f call spent
 
   -- an actor ran over its face, which answered these calls
   pub record HasRun (s : Script) (before after : F) (answered : List PlacedEntry) : Type 0 where
@@ -53,6 +56,8 @@ module _ {F : Type 0} (face : Ghosts F) where
     -- they are what the actor asks, at places that rise
     pub asked : AskedInTurn s (face.who before) [] answered
     pub places : RiseWithin (face.floor before) (face.floor after) answered
+    -- each call that was asked is as the face promises
+    pub kept : HasKept face before after answered
     -- where no limit barred a call the actor has asked all, and else its next call is barred
     pub all : face.stops after ≡ 0 → next_ask (face.who before) s.lines (replies_in answered) ≡ None
     pub stopped : 0 < face.stops after → IsStopped s after answered

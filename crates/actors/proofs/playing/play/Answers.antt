@@ -36,7 +36,7 @@ returns-in-Err g c =
     let at = caller_at s.lines c.args.seat.actor in
     let next = next_at (g.F.Face.who f) at s (replies_in plays.answered) c.loop-call.progress (Some c.in-Some.call.now) c.requires.caller c.in-Some.ensures.followed plays.followed in
     barred g.F.Face s f c.loop-call.face c.ask.new.self c.loop-call.kept c.loop-call.progress c.loop-call.left plays
-    c.in-Some.call.now c.ask.new.events.items next c.in-Err.spent told.who told.shape told.home told.place told.stops told.own told.left told.barred
+    c.in-Some.call.now c.ask.new.events.items next c.in-Err.spent told.who told.shape told.home told.place told.stops told.own told.left told.barred told.keeps
 
 pub loop-call-preserved : goal.loop-call-preserved
 loop-call-preserved g c =
@@ -47,7 +47,7 @@ loop-call-preserved g c =
     let at = caller_at s.lines c.args.seat.actor in
     let next = next_at (g.F.Face.who f) at s (replies_in plays.answered) c.loop-call.progress (Some c.in-Some.call.now) c.requires.caller c.in-Some.ensures.followed plays.followed in
     answer g.F.Face s f c.loop-call.face c.ask.new.self c.loop-call.kept c.keep.new.self c.loop-call.progress c.after.new.self c.loop-call.left plays
-    c.caller-caller.result c.in-Some.call.now c.ask.new.events.items c.in-Ok.done next told.who told.shape told.home told.place told.stops told.own told.left
+    c.caller-caller.result c.in-Some.call.now c.ask.new.events.items c.in-Ok.done next told.who told.shape told.home told.place told.stops told.own told.left told.keeps
     c.caller-caller.ensures.who c.keep.ensures.before
     (λ kept. c.keep.ensures.entry kept ∙ ap (λ events. own_after c.caller-caller.result c.in-Some.call.now events (Ok c.in-Ok.done) (placed_in c.loop-call.kept.entries.items)) c.as_slice.ensures.value)
     (follows_at (g.F.Face.who f) at s c.in-Ok.done.reply c.loop-call.progress c.after.new.self c.requires.caller (λ rs. c.after.ensures.followed rs c.requires.actor))
