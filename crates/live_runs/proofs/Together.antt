@@ -21,7 +21,8 @@ use Rattle.board_step.proofs.Following.{board_after_is_reached}
 use Rattle.board_laws.specs.Lawful.{LegalHistoriesKeepTheLaws}
 use Rattle.board_laws.proofs.Points.{split}
 use Rattle.script_histories.specs.Merging.{EndsWell}
-use Rattle.replaying.proofs.Barred.{stays_barred, stays_reached}
+use Rattle.board_step.proofs.Faces.{spent_reached, stays_reached}
+use Rattle.replaying.proofs.Barred.{stays_barred}
 use Rattle.actors.specs.Runs.{calls_by}
 use Rattle.turn_book.specs.Histories.{IsPrefix, is_in}
 use Rattle.turn_book.proofs.Lists.{all_two}
@@ -33,7 +34,7 @@ use Rattle.part_board.specs.declared.pass.Pass.{Pass}
 use Rattle.part_board.specs.Seen.{pass_seen, desk_view, has_made}
 use Rattle.part_board.proofs.Faces.{own_stays}
 use Rattle.live_runs.specs.Made.{callers_of, seen_by_first, HasLearnt, HasMadeJust}
-use Rattle.live_runs.specs.Ran.{HasOwn, IsStopped, FirstStop, HaveRunBy}
+use Rattle.live_runs.specs.Ran.{HasOwn, IsStopped, StopsAt, FirstStop, HaveRunBy}
 use Rattle.live_runs.specs.Running.{WasBarred, ByNext, FirstBarred, IsRun}
 use Rattle.live_runs.specs.Telling.{AllKnow}
 use Rattle.live_runs.proofs.Passes.{callers_agree, same_passes}
@@ -84,37 +85,35 @@ module _ (shape : Shape) (point history : List Entry) (within : IsPrefix point h
 
 -- ---- the first limit
 
-by_next : (o : Option Call) (A B C D : Type 0) → (A → C) → (B → D) → ByNext o A B → ByNext o C D
-by_next None A B C D f g x = f x
-by_next (Some call) A B C D f g x = g x
+by_next : (o : Option Call) (A C : Type 0) (B D : Call → Type 0) → (A → C) → ((call : Call) → B call → D call) → ByNext o A B → ByNext o C D
+by_next None A C B D f g x = f x
+by_next (Some call) A C B D f g x = g call x
 
 module _ (s : Script) (history : List Entry) (spent : Option Spent) where
   abbrev OfShape : Pass → Type 0
   OfShape p = p.shape ≡ s.shape
 
-  was_barred : (p : Pass) → OfShape p → IsPassedOn history p → IsStopped s history p → (is_some spent ≡ true) × (is_reached (board_seen p) spent ≡ true) → WasBarred s history spent p.caller
-  was_barred p shape on stopped (told, reached) = record {
+  was_barred : (p : Pass) → OfShape p → IsPassedOn history p → (call : Call) → StopsAt spent p call → WasBarred s history spent p.caller call
+  was_barred p shape on call (told, bars) = record {
     point = pass_seen p;
     within = on.seen;
     own = on.own;
-    bars = λ call next. subst (λ (sh : Shape). is_some (spent_of (board_after (opening sh) (pass_seen p)) call) ≡ true) shape (stopped call next);
     told = told;
-    reached = subst (λ (sh : Shape). is_reached (board_after (opening sh) (pass_seen p)) spent ≡ true) shape reached;
+    bars = subst (λ (sh : Shape). spent_of (board_after (opening sh) (pass_seen p)) call ≡ spent) shape bars;
   }
 
-  first_barred : (passes : List Pass) → All OfShape passes → All (IsPassedOn history) passes → All (IsStopped s history) passes → FirstStop s history spent passes → FirstBarred s history spent (callers_of passes)
-  first_barred [] shapes each stopped first = first
-  first_barred (p ∷ passes) shapes each stopped first =
+  first_barred : (passes : List Pass) → All OfShape passes → All (IsPassedOn history) passes → FirstStop s history spent passes → FirstBarred s history spent (callers_of passes)
+  first_barred [] shapes each first = first
+  first_barred (p ∷ passes) shapes each first =
       by_next (next_of s history p.caller)
-      (FirstStop s history spent passes) ((is_some spent ≡ true) × (is_reached (board_seen p) spent ≡ true))
-      (FirstBarred s history spent (callers_of passes)) (WasBarred s history spent p.caller)
-      (first_barred passes (All-tail OfShape p passes shapes) (All-tail (IsPassedOn history) p passes each) (All-tail (IsStopped s history) p passes stopped))
-      (was_barred p (All-head OfShape p passes shapes) (All-head (IsPassedOn history) p passes each) (All-head (IsStopped s history) p passes stopped))
+      (FirstStop s history spent passes) (FirstBarred s history spent (callers_of passes)) (StopsAt spent p) (WasBarred s history spent p.caller)
+      (first_barred passes (All-tail OfShape p passes shapes) (All-tail (IsPassedOn history) p passes each))
+      (was_barred p (All-head OfShape p passes shapes) (All-head (IsPassedOn history) p passes each))
       first
 
   -- who was stopped, where a limit is told
   abbrev Someone : Type 0
-  Someone = (who : Caller) × (is_some (next_of s history who) ≡ true) × WasBarred s history spent who
+  Someone = (who : Caller) × (call : Call) × (next_of s history who ≡ Some call) × WasBarred s history spent who call
 
   someone : (spent ≡ None → ⊥) → (cs : List Caller) → FirstBarred s history spent cs → Someone
   someone some [] first = absurd (some first)
@@ -122,7 +121,7 @@ module _ (s : Script) (history : List Entry) (spent : Option Spent) where
     where
       by : (FirstBarred s history spent cs → Someone) → (o : Option Call) → next_of s history c ≡ o → ByNext o (FirstBarred s history spent cs) (WasBarred s history spent c) → Someone
       by rest None is first = rest first
-      by rest (Some call) is was = (c, ap is_some is, was)
+      by rest (Some call) is was = (c, call, is, was)
 
 -- ---- a run
 
@@ -165,7 +164,7 @@ module _ (s : Script) (shape : Shape) (desk : Desk) (before now : List Pass) (hi
   each = subst (λ l. All (IsPassedOn l) before) (sym history_is) know.each
 
   first : FirstBarred s history spent (actors_of s.lines)
-  first = subst (FirstBarred s history spent) callers (first_barred s history spent before shapes each ran.stopped ran.first)
+  first = subst (FirstBarred s history spent) callers (first_barred s history spent before shapes each ran.first)
 
   abbrev Barred : Caller → Type 0
   Barred c = (call : Call) → next_of s history c ≡ Some call → is_some (spent_of legal.0 call) ≡ true
@@ -188,11 +187,14 @@ module _ (s : Script) (shape : Shape) (desk : Desk) (before now : List Pass) (hi
 
   well : (o : Option Spent) → spent ≡ o → EndsWell s history legal.0 (is_some o)
   well None is = ran.whole is
-  well (Some x) is = record { who = (stopped_at x is).0; left = (stopped_at x is).1; barred = all_barred }
+  well (Some x) is = (let (who, call, next, was) = stopped_at x is in record { who = who; left = ap is_some next; barred = all_barred })
 
   reached : (o : Option Spent) → spent ≡ o → is_reached (board_after (opening s.shape) history) spent ≡ true
   reached None is = subst (λ o. is_reached (board_after (opening s.shape) history) o ≡ true) (sym is) refl
-  reached (Some x) is = (let was = (stopped_at x is).2 in still_reached s.shape was.point history was.within legal spent was.reached)
+  reached (Some x) is =
+      let (who, call, next, was) = stopped_at x is in
+      subst (λ o. is_reached (board_after (opening s.shape) history) o ≡ true) (sym is)
+      (still_reached s.shape was.point history was.within legal (Some x) (spent_reached (board_after (opening s.shape) was.point) call x (was.bars ∙ is)))
 
   is_run : LegalHistoriesKeepTheLaws → IsRun s history spent
   is_run laws = record {

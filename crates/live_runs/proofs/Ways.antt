@@ -11,7 +11,6 @@ use Rattle.irq_base.specs.declared.lists.Entry.{Entry}
 use Rattle.irq_base.specs.declared.reply.Spent.{Spent}
 use Rattle.script_text.specs.Scripts.{Script}
 use Rattle.script_merging.specs.Merging.{next_of, Merges, IsWhole}
-use Rattle.board_step.specs.Applied.{is_reached}
 use Rattle.board_step.specs.Step.{spent_of}
 use Rattle.actors.specs.Turns.{HasRun}
 use Rattle.actors.specs.Runs.{calls_by, HaveRun, AreOwn, AreGathered, first_stop, IsBack, AreBack}
@@ -21,7 +20,7 @@ use Rattle.part_board.specs.declared.pass.Pass.{Pass}
 use Rattle.part_board.specs.Seen.{pass_seen, IsPassOf}
 use Rattle.part_board.proofs.Faces.{table_is}
 use Rattle.live_runs.specs.Made.{callers_of, IsFresh}
-use Rattle.live_runs.specs.Ran.{HasOwn, IsStopped, FirstStop, HaveRunBy}
+use Rattle.live_runs.specs.Ran.{HasOwn, IsStopped, StopsAt, FirstStop, HaveRunBy}
 use Rattle.live_runs.specs.Running.{ByNext}
 use Rattle.live_runs.proofs.Places.{own_none}
 
@@ -54,8 +53,7 @@ module _ {F : Type 0} (face : Ghosts F) (s : Script) (pass_of : F → Pass)
     (own_is : (f : F) → face.own f ≡ Some (own_in (pass_of f).caller (pass_seen (pass_of f))))
     (home_is : (f : F) → face.home f ≡ Some (home_of_pass (pass_of f)))
     (shape_is : (f : F) → face.shape f ≡ (pass_of f).shape)
-    (bars : (f : F) (call : Call) → face.barred f call → is_some (spent_of (board_seen (pass_of f)) call) ≡ true)
-    (limit : (f : F) → is_reached (board_seen (pass_of f)) (face.last f) ≡ true) where
+    (bars : (f : F) (call : Call) (spent : Spent) → face.barred f call spent → spent_of (board_seen (pass_of f)) call ≡ Some spent) where
   abbrev ways : List F → List Pass
   ways fs = map pass_of fs
 
@@ -113,7 +111,7 @@ module _ {F : Type 0} (face : Ghosts F) (s : Script) (pass_of : F → Pass)
       by false is =
           let barred = back.barred (grind (is, arith, nat_tests)) in
           let same : barred.call ≡ call = some_is barred.call call (sym barred.next ∙ ap (next_of s history) (who_is g) ∙ next) in
-          subst (λ c. is_some (spent_of (board_seen (pass_of g)) c) ≡ true) same (bars g barred.call barred.barred)
+          subst (λ c. is_some (spent_of (board_seen (pass_of g)) c) ≡ true) same (ap is_some (bars g barred.call barred.spent barred.barred))
 
   stopped : (history : List Entry) (fs gs : List F) → AreBack face s history fs gs → All (IsStopped s history) (ways gs)
   stopped history [] [] back = All-nil (IsStopped s history)
@@ -128,12 +126,13 @@ module _ {F : Type 0} (face : Ghosts F) (s : Script) (pass_of : F → Pass)
       by : (t : Bool) → nat_eq (face.stops g) 0 ≡ t → FirstStop s history (first_stop face gs) (ways gs) → FirstStop s history (if t then first_stop face gs else face.last g) (pass_of g ∷ ways gs)
       by true is rest =
           let none : next_of s history (pass_of g).caller ≡ None = ap (next_of s history) (sym (who_is g) ∙ back.caller) ∙ back.all (grind (is, arith, nat_tests)) in
-          subst (λ o. ByNext o (FirstStop s history (first_stop face gs) (ways gs)) ((is_some (first_stop face gs) ≡ true) × (is_reached (board_seen (pass_of g)) (first_stop face gs) ≡ true))) (sym none) rest
+          subst (λ o. ByNext o (FirstStop s history (first_stop face gs) (ways gs)) (StopsAt (first_stop face gs) (pass_of g))) (sym none) rest
       by false is rest =
           let some : 0 < face.stops g = grind (is, arith, nat_tests) in
-          let next : next_of s history (pass_of g).caller ≡ Some (back.barred some).call = ap (next_of s history) (sym (who_is g)) ∙ (back.barred some).next in
-          subst (λ o. ByNext o (FirstStop s history (face.last g) (ways gs)) ((is_some (face.last g) ≡ true) × (is_reached (board_seen (pass_of g)) (face.last g) ≡ true))) (sym next)
-          ((run.stopped some).limit, limit g)
+          let barred = back.barred some in
+          let next : next_of s history (pass_of g).caller ≡ Some barred.call = ap (next_of s history) (sym (who_is g)) ∙ barred.next in
+          subst (λ o. ByNext o (FirstStop s history (face.last g) (ways gs)) (StopsAt (face.last g) (pass_of g))) (sym next)
+          (ap is_some barred.last, bars g barred.call barred.spent barred.barred ∙ sym barred.last)
   firsts history [] [] (ps ∷ lists) ran back = absurd ran
   firsts history [] (g ∷ gs) lists ran back = absurd ran
   firsts history (f ∷ fs) [] lists ran back = absurd ran

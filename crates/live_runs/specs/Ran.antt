@@ -8,7 +8,6 @@ use Rattle.irq_base.specs.declared.lists.Entry.{Entry}
 use Rattle.irq_base.specs.declared.reply.Spent.{Spent}
 use Rattle.script_text.specs.Scripts.{Script}
 use Rattle.script_merging.specs.Merging.{next_of, Merges, IsWhole}
-use Rattle.board_step.specs.Applied.{is_reached}
 use Rattle.board_step.specs.Step.{spent_of}
 use Rattle.actors.specs.Runs.{calls_by}
 use Rattle.actors.specs.Turns.{entries_in}
@@ -25,12 +24,15 @@ HasOwn calls pass = calls_by pass.caller calls ≡ own_in pass.caller (pass_seen
 abbrev pub IsStopped : Script → List Entry → Pass → Type 0
 IsStopped s history pass = (call : Call) → next_of s history pass.caller ≡ Some call → is_some (spent_of (board_seen pass) call) ≡ true
 
--- the limit that is told is reached on the board that the first pass has seen whose actor has a call left; none is told where none has
+-- the limit that is told bars this call on the board that the pass has seen
+abbrev pub StopsAt : Option Spent → Pass → Call → Type 0
+StopsAt spent pass call = (is_some spent ≡ true) × (spent_of (board_seen pass) call ≡ spent)
+
+-- the limit that is told stops the first of these passes whose actor has a call left; none is told where none has
 abbrev pub FirstStop : Script → List Entry → Option Spent → List Pass → Type 0
 FirstStop s history spent [] = spent ≡ None
 FirstStop s history spent (pass ∷ passes) =
-    ByNext (next_of s history pass.caller) (FirstStop s history spent passes)
-    ((is_some spent ≡ true) × (is_reached (board_seen pass) spent ≡ true))
+    ByNext (next_of s history pass.caller) (FirstStop s history spent passes) (StopsAt spent pass)
 
 -- the actors ran, each by its pass
 pub record HaveRunBy (s : Script) (history : List Entry) (spent : Option Spent) (passes : List Pass) : Type 0 where

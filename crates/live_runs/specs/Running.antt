@@ -19,22 +19,20 @@ use Rattle.replaying.specs.Replays.{run_of}
 
 -- ---- the limit that is told
 
--- at some point of the history, behind which it has no entry of this caller, a limit bars the caller's next call, and the limit that is
--- told is reached
-pub record WasBarred (s : Script) (history : List Entry) (spent : Option Spent) (who : Caller) : Type 0 where
+-- at some point of the history, behind which it has no entry of this caller, the limit that is told bars this call
+pub record WasBarred (s : Script) (history : List Entry) (spent : Option Spent) (who : Caller) (call : Call) : Type 0 where
   pub point : List Entry
   pub within : IsPrefix point history
   pub own : entries_by who history ≡ entries_by who point
-  pub bars : (call : Call) → next_of s history who ≡ Some call → is_some (spent_of (board_after (opening s.shape) point) call) ≡ true
   pub told : is_some spent ≡ true
-  pub reached : is_reached (board_after (opening s.shape) point) spent ≡ true
+  pub bars : spent_of (board_after (opening s.shape) point) call ≡ spent
 
--- one thing where there is no next call, and another where there is one
-abbrev pub ByNext : Option Call → Type 0 → Type 0 → Type 0
+-- one thing where there is no next call, and another of the next call where there is one
+abbrev pub ByNext : Option Call → Type 0 → (Call → Type 0) → Type 0
 ByNext None without with_one = without
-ByNext (Some call) without with_one = with_one
+ByNext (Some call) without with_one = with_one call
 
--- the limit that is told barred the first of these actors that has a call left; none is told where none has
+-- the limit that is told barred the next call of the first of these actors that has one left; none is told where none has
 abbrev pub FirstBarred : Script → List Entry → Option Spent → List Caller → Type 0
 FirstBarred s history spent [] = spent ≡ None
 FirstBarred s history spent (who ∷ more) = ByNext (next_of s history who) (FirstBarred s history spent more) (WasBarred s history spent who)

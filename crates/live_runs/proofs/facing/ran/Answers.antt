@@ -23,14 +23,14 @@ returns-clause-passes g c =
     let fs = c.in_ok-faces.faces.items in
     let all = all_mapped (λ f. f.pass) (IsFresh board) fs (subst (All (IsFresh board)) (sym c.in_ok-faces.ensures.passes) c.requires.passes) in
     subst (All (IsPassOf board)) (sym c.in_ok-passes.ensures)
-    (of_board_back _ c.args.script.now (λ f. f.pass) (λ _. refl) (λ _. refl) (λ f. ap (λ n. Some n) (sym f.book)) (λ f. sym f.shape) (λ f call bars. bars) (λ f. f.reached)
+    (of_board_back _ c.args.script.now (λ f. f.pass) (λ _. refl) (λ _. refl) (λ f. ap (λ n. Some n) (sym f.book)) (λ f. sym f.shape) (λ f call spent bars. bars)
     board c.in-Ok.log.history fs c.in-Ok.log.faces.items c.in-Ok.ensures.back (λ k d low. (all k d low).of_board))
 
 pub returns-clause-callers : goal.returns-clause-callers
 returns-clause-callers g c =
     let fs = c.in_ok-faces.faces.items in
     ap callers_of c.in_ok-passes.ensures
-    ∙ callers_back _ c.args.script.now (λ f. f.pass) (λ _. refl) (λ _. refl) (λ f. ap (λ n. Some n) (sym f.book)) (λ f. sym f.shape) (λ f call bars. bars) (λ f. f.reached)
+    ∙ callers_back _ c.args.script.now (λ f. f.pass) (λ _. refl) (λ _. refl) (λ f. ap (λ n. Some n) (sym f.book)) (λ f. sym f.shape) (λ f call spent bars. bars)
     c.in-Ok.log.history fs c.in-Ok.log.faces.items c.in-Ok.ensures.back
     ∙ ap callers_of c.in_ok-faces.ensures.passes ∙ c.requires.callers
 
@@ -40,6 +40,6 @@ returns-clause-ran g c =
     let fs = c.in_ok-faces.faces.items in
     let all = all_mapped (λ f. f.pass) (IsFresh board) fs (subst (All (IsFresh board)) (sym c.in_ok-faces.ensures.passes) c.requires.passes) in
     subst (HaveRunBy c.args.script.now c.in-Ok.log.history c.in-Ok.log.spent) (sym c.in_ok-passes.ensures)
-    (have_run _ c.args.script.now (λ f. f.pass) (λ _. refl) (λ _. refl) (λ f. ap (λ n. Some n) (sym f.book)) (λ f. sym f.shape) (λ f call bars. bars) (λ f. f.reached)
+    (have_run _ c.args.script.now (λ f. f.pass) (λ _. refl) (λ _. refl) (λ f. ap (λ n. Some n) (sym f.book)) (λ f. sym f.shape) (λ f call spent bars. bars)
     board c.in-Ok.log.history c.in-Ok.log.spent fs c.in-Ok.log.faces.items all
     c.in-Ok.ensures.gathered c.in-Ok.ensures.merge c.in-Ok.ensures.back c.in-Ok.ensures.spent c.in-Ok.ensures.whole)
