@@ -9,6 +9,7 @@ ghost use Rattle.board_raise.specs.InHand.{ioapic_of, parts_of, chips_of, OnlyPi
 ghost use Rattle.board_raise.specs.Shown.{DoesQuietly};
 ghost use Rattle.board_ack.specs.Acknowledge.{resend, end_level};
 ghost use Rattle.board_ack.specs.OnHand.{Adds, end_entry, entry_ended, sent_again, OnlyAcked};
+ghost use Rattle.irq_bits.specs.declared.limits.TheConstants.{MAX_CPUS};
 
 use board_raise::{IoPart, Lacks, Parts, Rig, send_of_pin};
 use irq_base::{Event, Events, Message, Part, Pin, tell};
@@ -18,7 +19,7 @@ use irq_base::{Event, Events, Message, Part, Pin, tell};
 /// has no entry.
 #[tactic(auto, using(crate::proofs::Adding::told_rules))]
 pub fn end_level<R: Rig>(rig: &mut R, cpus: u16, pin: Pin, events: &mut Events) -> Result<(), Lacks>
-    requires few_cpus { cpus ≤ 64 }
+    requires few_cpus { cpus ≤ MAX_CPUS }
     requires places { length (R.held rig.old).lapics ≡ cpus }
     requires pins { PinsFit (chips_of (R.held rig.old)) }
     requires pin { IsPin pin }
@@ -40,7 +41,7 @@ pub fn end_level<R: Rig>(rig: &mut R, cpus: u16, pin: Pin, events: &mut Events) 
 // The same of a pin of the I/O APIC.
 #[tactic(auto, using(crate::proofs::Adding::told_rules))]
 fn end_ioapic<R: Rig>(rig: &mut R, cpus: u16, pin: u8, events: &mut Events) -> Result<(), Lacks>
-    requires few_cpus { cpus ≤ 64 }
+    requires few_cpus { cpus ≤ MAX_CPUS }
     requires places { length (R.held rig.old).lapics ≡ cpus }
     requires pins { PinsFit (chips_of (R.held rig.old)) }
     requires pin { pin < 24 }
@@ -74,7 +75,7 @@ pub fn resend<R: Rig>(
     message: &Message,
     events: &mut Events,
 ) -> Result<(), Lacks>
-    requires few_cpus { cpus ≤ 64 }
+    requires few_cpus { cpus ≤ MAX_CPUS }
     requires places { length (R.held rig.old).lapics ≡ cpus }
     requires pins { PinsFit (chips_of (R.held rig.old)) }
     requires pin { pin < 24 }

@@ -12,6 +12,7 @@ ghost use Rattle.board_raise.specs.Shown.{DoesQuietly, Leaves, Place, about_at};
 ghost use Rattle.board_ack.specs.Acknowledge.{end_tick};
 ghost use Rattle.board_ack.specs.Ticks.{inject_tick, free_tick};
 ghost use Rattle.board_ack.specs.OnHand.{Adds, ShowsTick, OnlyAcked};
+ghost use Rattle.irq_bits.specs.declared.limits.TheConstants.{MAX_CPUS};
 
 use board_raise::{Lacks, Parts, Rig, inject};
 use irq_base::{Event, Events, Part, Shape, Source, Status, tell};
@@ -20,7 +21,7 @@ use irq_base::{Event, Events, Part, Shape, Source, Status, tell};
 ///
 /// The parts that a raise of that GSI needs are needed, and then the tick state.
 pub fn inject_tick<R: Rig>(rig: &mut R, shape: &Shape) -> Result<Status, Lacks>
-    requires few_cpus { shape.now.cpus ≤ 64 }
+    requires few_cpus { shape.now.cpus ≤ MAX_CPUS }
     requires tick { shape.now.tick < 4096 }
     requires places { length (R.held rig.old).lapics ≡ shape.now.cpus }
     requires pins { PinsFit (chips_of (R.held rig.old)) }
@@ -55,7 +56,7 @@ pub fn end_tick<R: Rig>(
     gsi: Option<u16>,
     events: &mut Events,
 ) -> Result<(), Lacks>
-    requires few_cpus { shape.now.cpus ≤ 64 }
+    requires few_cpus { shape.now.cpus ≤ MAX_CPUS }
     requires tick { shape.now.tick < 4096 }
     requires places { length (R.held rig.old).lapics ≡ shape.now.cpus }
     requires pins { PinsFit (chips_of (R.held rig.old)) }

@@ -32,6 +32,7 @@ use Rattle.board_model.specs.Registry.{RegistryPart}
 use Rattle.board_model.specs.Routing.{Routing, trigger_of, is_marked, routing_of_registry}
 use Rattle.board_model.specs.Laws.{WordsTellTheRouting, PublishedDecides}
 use Rattle.board_model.specs.Published.{trigger_word, trigger_in, pin_word, gsi_in, each_below, words_of, published, word_at, gsi_word_at, trigger_word_at, pin_word_at, routing_of_words, IsSoundTable, IsSoundIrqfd, IsSoundRegistry}
+use Rattle.board_model.specs.declared.width.TheConstants.{WORDS}
 
 -- ---- lists of words
 
@@ -231,7 +232,7 @@ ioapic_word-is routing pin below =
     place : (k : ℕ) → 4368 + k ≡ 4096 + (256 + (16 + k))
     place k = omega arith
 
-pub length-words_of : (routing : Routing) → length (words_of routing) ≡ 4392
+pub length-words_of : (routing : Routing) → length (words_of routing) ≡ WORDS
 unfolding words_of
 length-words_of routing = simp (length-append, length-each_below)
 

@@ -15,6 +15,7 @@ use Rattle.board_model.specs.Plan.{Plan, ◌>>=◌}
 use Rattle.board_model.specs.Run.{Wishes, run, then_run, reaches, lacks, run_on, then_on}
 use Rattle.board_model.specs.Agreement.{Agrees, Exact, AgreesOnReach, RunsAlike, SameOutcome, SameFrame, IsLacking, ReachesPast}
 use Rattle.board_model.specs.Following.{shown_wishes, IsSteady}
+use Rattle.board_model.specs.declared.width.TheConstants.{WORDS}
 
 -- a part outside the reach stays as it is
 abbrev pub UnreachedStays : Type 0 → Type 0
@@ -79,18 +80,18 @@ pub record PinsFollowHolds : Type 0 where
   pub ioapic : (part : IoapicPart) → with_ioapic part (ioapic_of part) ≡ part
   pub chip : (part : IoapicPart) (chip : Ioapic) → chip.high ≡ ioapic_high part.holds → ioapic_of (with_ioapic part chip) ≡ chip
 
--- a sound registry publishes 4,392 words, and they tell its routing
+-- a sound registry publishes WORDS words, and they tell its routing
 pub record PublishesRouting (registry : RegistryPart) (tick : ℕ) : Type 0 where
-  pub count : length (published registry tick) ≡ 4392
+  pub count : length (published registry tick) ≡ WORDS
   pub told : routing_of_words (published registry tick) ≡ routing_of_registry registry tick
 
 -- every sound registry publishes its routing
 abbrev pub WordsTellTheRouting : Type 0
 WordsTellTheRouting = (registry : RegistryPart) (tick : ℕ) → IsSoundRegistry registry tick → PublishesRouting registry tick
 
--- a board publishes 4,392 words, whatever its registry
+-- a board publishes WORDS words, whatever its registry
 abbrev pub PublishesAsMany : Type 0
-PublishesAsMany = (registry : RegistryPart) (tick : ℕ) → length (published registry tick) ≡ 4392
+PublishesAsMany = (registry : RegistryPart) (tick : ℕ) → length (published registry tick) ≡ WORDS
 
 -- two sound registries publish the same words
 pub record PublishTheSame (registry other : RegistryPart) (tick other_tick : ℕ) : Type 0 where

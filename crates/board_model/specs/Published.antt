@@ -77,7 +77,7 @@ abbrev pub pin_word_at : List ℕ → Pin → ℕ
 pin_word_at words (Pic pin) = word_at words 4352 16 pin
 pin_word_at words (Ioapic pin) = word_at words 4368 24 pin
 
--- the routing that 4,392 words tell
+-- the routing that WORDS words tell
 abbrev pub routing_of_words : List ℕ → Routing
 routing_of_words words = record {
   targets = λ gsi. (targets_in (gsi_word_at words gsi)).0;

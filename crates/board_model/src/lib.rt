@@ -10,10 +10,12 @@
 #![tactic(auto)]
 
 mod trigger;
+mod width;
 
 ghost use Rattle.board_model.specs.Laws.{UnreachedStays, FrameStays, AgreeingAlike, ShownDecides, ExactOnParts, LackingExactly, LackingIsNotHeld, ShownFollowed, RunInSequence, RunOnInSequence, ReachesInSequence, StatusShowsSets, PinsFollowHolds, WordsTellTheRouting, PublishedDecides, PublishesAsMany, PublishedDecidesTheTable};
 
 pub use trigger::TriggerWord;
+pub use width::WORDS;
 
 /// A law: a part outside the reach of a plan stays as it is.
 #[tactic(auto, using(crate::proofs::Staying::unreached_stays))]
@@ -96,7 +98,7 @@ pub fn pins_follow_holds()
     ensures { PinsFollowHolds }
 {}
 
-/// A law: a sound registry publishes 4,392 words, and these words tell its routing.
+/// A law: a sound registry publishes [`WORDS`] words, and these words tell its routing.
 pub fn words_tell_the_routing()
     ensures { WordsTellTheRouting }
 {}
@@ -107,7 +109,7 @@ pub fn published_decides()
     ensures { PublishedDecides }
 {}
 
-/// A law: every board publishes 4,392 words, whatever its registry.
+/// A law: every board publishes [`WORDS`] words, whatever its registry.
 #[tactic(auto, using(crate::proofs::Tables::publishes_as_many))]
 pub fn publishes_as_many()
     ensures { PublishesAsMany }

@@ -3,7 +3,7 @@ use Rattle.std.proofs.Common.{◌≡◌, ℕ, zero, suc, ◌<◌, Bool, true, fa
 use Rattle.std.specs.List.{list_any}
 use Rattle.irq_base.specs.declared.message.Message.{Message}
 use Rattle.irq_base.specs.declared.shape.Part.TheVariants.{Lapic}
-use Rattle.dest_match.specs.Match.{broadcast}
+use Rattle.dest_match.specs.declared.destination.TheConstants.{BROADCAST}
 use Rattle.board_model.specs.Board.{Board, part_of}
 use Rattle.board_raise.specs.Named.{Processor, does_hear, is_named, named_by}
 use Rattle.board_raise.specs.Send.{numbers_below, only, reached_by}
@@ -83,7 +83,7 @@ any_only q d cpus sole = of_number (nat_lt d cpus) ∙ sym (any_below q d cpus s
     of_number false = refl
 
 -- a physical destination that is matched is the number
-is_destination : (logical matches hears : Bool) (d n : ℕ) → logical ≡ false → nat_eq d broadcast ≡ false → ((if logical then matches else (nat_eq d broadcast || nat_eq d n)) && hears) ≡ true → n ≡ d
+is_destination : (logical matches hears : Bool) (d n : ℕ) → logical ≡ false → nat_eq d BROADCAST ≡ false → ((if logical then matches else (nat_eq d BROADCAST || nat_eq d n)) && hears) ≡ true → n ≡ d
 is_destination logical matches hears d n physical single h = grind (physical, single, h, arith)
 
 -- a message that is no interprocessor interrupt names somebody of those who are looked at exactly where it names somebody
@@ -95,9 +95,9 @@ named_alike b cpus message numbered =
     q n = is_named message None (record { number = n; apic = part_of b (Lapic n) })
 
     looked_at : list_any q (reached_by message None cpus) ≡ list_any q (numbers_below cpus)
-    looked_at = elim message.logical as (λ l. message.logical ≡ l → list_any q (if l then numbers_below cpus else if nat_eq message.dest broadcast then numbers_below cpus else only message.dest cpus) ≡ list_any q (numbers_below cpus)) [
+    looked_at = elim message.logical as (λ l. message.logical ≡ l → list_any q (if l then numbers_below cpus else if nat_eq message.dest BROADCAST then numbers_below cpus else only message.dest cpus) ≡ list_any q (numbers_below cpus)) [
       | true ↦ λ _. refl
-      | false ↦ λ physical. elim (nat_eq message.dest broadcast) as (λ t. nat_eq message.dest broadcast ≡ t → list_any q (if t then numbers_below cpus else only message.dest cpus) ≡ list_any q (numbers_below cpus)) [
+      | false ↦ λ physical. elim (nat_eq message.dest BROADCAST) as (λ t. nat_eq message.dest BROADCAST ≡ t → list_any q (if t then numbers_below cpus else only message.dest cpus) ≡ list_any q (numbers_below cpus)) [
         | true ↦ λ _. refl
         | false ↦ λ single. any_only q message.dest cpus (λ n below passes.
             sym (numbered.numbers n below)

@@ -15,6 +15,7 @@ use Rattle.board_raise.specs.Named.{Processor, lowest_of, first_alone, first_or,
 use Rattle.board_raise.specs.OnRow.{Row, apic_in, with_processor, processors_in}
 use Rattle.board_raise.specs.RowSteps.{numbers_from, numbers_between, Ascends, goes_to_lowest}
 use Rattle.board_raise.proofs.Each.{both_hold, Each, told, nobody_told}
+use Rattle.irq_bits.specs.declared.limits.TheConstants.{MAX_CPUS}
 
 -- ---- numbers that go up
 
@@ -136,7 +137,7 @@ common_least a b n in_a in_b before = record {
     at k true less h = let under : k < n = grind (less, arith) in absurd (true≢false (sym h ∙ before k under))
     at k false more h = grind (more, arith)
 
-pub common_none : (a b : Numbers) → ((k : ℕ) → k < 64 → (set.contains a k && set.contains b k) ≡ false) → ((k : ℕ) → set.contains a k ≡ true → k < 64) → set.intersection a b ≡ set.empty
+pub common_none : (a b : Numbers) → ((k : ℕ) → k < MAX_CPUS → (set.contains a k && set.contains b k) ≡ false) → ((k : ℕ) → set.contains a k ≡ true → k < MAX_CPUS) → set.intersection a b ≡ set.empty
 common_none a b none few = same_set nat_cmp_total nat_cmp-IsAntisymmetric _ _ (λ k. contains-intersection nat_cmp_total a b k ∙ at k (set.contains a k) refl ∙ sym (contains-empty nat_cmp k))
   where
     at : (k : ℕ) (t : Bool) → set.contains a k ≡ t → (set.contains a k && set.contains b k) ≡ false

@@ -14,7 +14,8 @@ use Rattle.irq_base.specs.declared.status.Cause.TheVariants.{Mode as BadMode}
 use Rattle.lapic.specs.declared.outcome.Shorthand.{Shorthand}
 use Rattle.lapic.specs.declared.outcome.Shorthand.TheVariants.{Field, OwnOnly, All, Others}
 use Rattle.lapic.specs.Messages.{accepted, dest_view}
-use Rattle.dest_match.specs.Match.{does_match, broadcast}
+use Rattle.dest_match.specs.Match.{does_match}
+use Rattle.dest_match.specs.declared.destination.TheConstants.{BROADCAST}
 use Rattle.board_model.specs.Board.{Board, part_of, with_part}
 use Rattle.board_model.specs.Statuses.{TargetAnswer, message_answer}
 use Rattle.board_model.specs.Plan.{About, events_of, answers_of, Plan, done, put, ◌>>=◌, ◌>>◌}
@@ -107,7 +108,7 @@ module _ (b : Board) where
     ] refl
 
 -- a physical destination that is matched is the number
-matched : (logical matches hears : Bool) (d n : ℕ) → logical ≡ false → nat_eq d broadcast ≡ false → ((if logical then matches else (nat_eq d broadcast || nat_eq d n)) && hears) ≡ true → n ≡ d
+matched : (logical matches hears : Bool) (d n : ℕ) → logical ≡ false → nat_eq d BROADCAST ≡ false → ((if logical then matches else (nat_eq d BROADCAST || nat_eq d n)) && hears) ≡ true → n ≡ d
 matched logical matches hears d n physical single h = grind (physical, single, h, arith)
 
 is_number : (n sender : ℕ) (hears : Bool) → (nat_eq n sender && hears) ≡ true → n ≡ sender
@@ -116,10 +117,10 @@ is_number n sender hears h = grind (h, arith)
 module _ (b : Board) (cpus : ℕ) (message : Message) (numbered : HasProcessors b cpus) where
   -- whatever the destination is, where the named ones are those that match
   by_destination : (p : Processor → Bool) → ((q : Processor) → p q ≡ (does_match (dest_view q.apic) message && does_hear message.mode q.apic))
-      → filter p (processors_on b (if message.logical then numbers_below cpus else if nat_eq message.dest broadcast then numbers_below cpus else only message.dest cpus)) ≡ filter p (processors_on b (numbers_below cpus))
-  by_destination p is = elim message.logical as (λ l. message.logical ≡ l → filter p (processors_on b (if l then numbers_below cpus else if nat_eq message.dest broadcast then numbers_below cpus else only message.dest cpus)) ≡ filter p (processors_on b (numbers_below cpus))) [
+      → filter p (processors_on b (if message.logical then numbers_below cpus else if nat_eq message.dest BROADCAST then numbers_below cpus else only message.dest cpus)) ≡ filter p (processors_on b (numbers_below cpus))
+  by_destination p is = elim message.logical as (λ l. message.logical ≡ l → filter p (processors_on b (if l then numbers_below cpus else if nat_eq message.dest BROADCAST then numbers_below cpus else only message.dest cpus)) ≡ filter p (processors_on b (numbers_below cpus))) [
     | true ↦ λ _. refl
-    | false ↦ λ physical. elim (nat_eq message.dest broadcast) as (λ t. nat_eq message.dest broadcast ≡ t → filter p (processors_on b (if t then numbers_below cpus else only message.dest cpus)) ≡ filter p (processors_on b (numbers_below cpus))) [
+    | false ↦ λ physical. elim (nat_eq message.dest BROADCAST) as (λ t. nat_eq message.dest BROADCAST ≡ t → filter p (processors_on b (if t then numbers_below cpus else only message.dest cpus)) ≡ filter p (processors_on b (numbers_below cpus))) [
       | true ↦ λ _. refl
       | false ↦ λ single. one_enough b p message.dest cpus (λ n below passes.
           sym (numbered.numbers n below)
@@ -309,9 +310,9 @@ below_apart (suc c) = apart_push (numbers_below c) c (below_apart c) (from (list
 
 module _ (message : Message) (cpus : ℕ) (P : List ℕ → Type 0) (every : P (numbers_below cpus)) (alone : (d : ℕ) → P (only d cpus)) where
   by_dest : P (reached_by message None cpus)
-  by_dest = elim message.logical as (λ l. P (if l then numbers_below cpus else if nat_eq message.dest broadcast then numbers_below cpus else only message.dest cpus)) [
+  by_dest = elim message.logical as (λ l. P (if l then numbers_below cpus else if nat_eq message.dest BROADCAST then numbers_below cpus else only message.dest cpus)) [
     | true ↦ every
-    | false ↦ elim (nat_eq message.dest broadcast) as (λ t. P (if t then numbers_below cpus else only message.dest cpus)) [ true ↦ every | false ↦ alone message.dest ]
+    | false ↦ elim (nat_eq message.dest BROADCAST) as (λ t. P (if t then numbers_below cpus else only message.dest cpus)) [ true ↦ every | false ↦ alone message.dest ]
   ]
 
   -- what holds of all processors and of each alone, holds of those that are looked at

@@ -12,12 +12,13 @@ use Rattle.ioevent_set.specs.declared.row.IoRow.{IoRow}
 use Rattle.board_model.specs.Registry.{RegistryPart}
 use Rattle.board_model.specs.Chips.{master_high, slave_high, ioapic_high}
 use Rattle.board_model.specs.Hand.{Parts, part_in}
+use Rattle.irq_bits.specs.declared.limits.TheConstants.{MAX_CPUS}
 
--- the numbers of a shape are inside the limits: 1 to 64 processors, 0 to 256 counters, the tick's GSI below 4,096, 1 to 2^40
+-- the numbers of a shape are inside the limits: 1 to MAX_CPUS processors, 0 to 256 counters, the tick's GSI below 4,096, 1 to 2^40
 -- calls, at most 2^20 publications
 pub record InLimits (shape : Shape) : Type 0 where
   pub some_cpus : 1 ≤ shape.cpus
-  pub cpus : shape.cpus ≤ 64
+  pub cpus : shape.cpus ≤ MAX_CPUS
   pub counters : shape.counters ≤ 256
   pub tick : shape.tick < 4096
   pub some_calls : 1 ≤ shape.calls

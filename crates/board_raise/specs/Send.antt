@@ -14,7 +14,7 @@ use Rattle.irq_base.specs.declared.status.Cause.TheVariants.{NoProcessor, BadVec
 use Rattle.lapic.specs.declared.outcome.Shorthand.{Shorthand}
 use Rattle.lapic.specs.declared.outcome.Shorthand.TheVariants.{Field, OwnOnly, All, Others}
 use Rattle.lapic.specs.Messages.{is_nmi, is_taken, accepted}
-use Rattle.dest_match.specs.Match.{broadcast}
+use Rattle.dest_match.specs.declared.destination.TheConstants.{BROADCAST}
 use Rattle.board_model.specs.Statuses.{Sent, nobody, TargetAnswer, no_effect, message_answer, status_of}
 use Rattle.board_model.specs.Plan.{About, injected, resent, ipi, the_reply, Plan, done, put, choose, see, say, reply, ◌>>=◌, ◌>>◌}
 use Rattle.board_model.specs.Following.{reached}
@@ -50,7 +50,7 @@ only n cpus = if nat_lt n cpus then n ∷ [] else []
 abbrev pub reached_by_destination : Message → ℕ → List ℕ
 reached_by_destination message cpus =
     if message.logical then numbers_below cpus
-    else if nat_eq message.dest broadcast then numbers_below cpus
+    else if nat_eq message.dest BROADCAST then numbers_below cpus
     else only message.dest cpus
 
 -- by the shorthand, where an interprocessor interrupt has one: the sender, or every one

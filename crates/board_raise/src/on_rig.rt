@@ -10,6 +10,7 @@ ghost use Rattle.board_raise.specs.InHand.{parts_of, OnlyApicsChange};
 ghost use Rattle.board_raise.specs.Send.{is_illegal, send};
 ghost use Rattle.board_raise.specs.ReachLaws.{of_message};
 ghost use Rattle.board_raise.specs.Told.{heading_of, status_told, Tells, IsOfMessage};
+ghost use Rattle.irq_bits.specs.declared.limits.TheConstants.{MAX_CPUS};
 
 use crate::lacks::Lacks;
 use crate::rig::Rig;
@@ -50,7 +51,7 @@ fn status_of(reached: Reached) -> Status
 }
 
 /// Sends a message to the processors of a board (SDM volume 3, message signalled interrupts, interrupt command register).
-/// `cpus` is the number of its processors, 1 to 64; the row of local APICs has as many places. `from` is the sender and the
+/// `cpus` is the number of its processors, 1 to `MAX_CPUS`; the row of local APICs has as many places. `from` is the sender and the
 /// shorthand of an interprocessor interrupt, and none for any other message.
 ///
 /// `Ok` carries the status of this message alone: what a pin of the 8259A pair answers to the same signal is not in it. A
@@ -67,7 +68,7 @@ pub fn send<R: Rig>(
     message: &Message,
     from: Option<(u16, Shorthand)>,
 ) -> Result<Status, Lacks>
-    requires few_cpus { cpus ≤ 64 }
+    requires few_cpus { cpus ≤ MAX_CPUS }
     requires places { length (R.held rig.old).lapics ≡ cpus }
     ensures does { (about : About) →
         Tells (heading_of message.now from) about result (parts_of (R.held rig.new)) (R.wishes rig.new)

@@ -14,13 +14,10 @@ ghost use Rattle.board_raise.specs.RowSteps.{numbers_between, Ascends, is_addres
 
 use crate::lacks::Lacks;
 use crate::row::LapicRow;
-use dest_match::matches;
+use dest_match::{BROADCAST, matches};
 use irq_base::{DestView, Message, Mode, Part};
-use irq_bits::CpuSet;
+use irq_bits::{CpuSet, MAX_CPUS};
 use lapic::{Accepted, Shorthand};
-
-// The destination of all processors.
-const BROADCAST: u32 = 0xff;
 
 /// The processors that a message names, and those of them with the least processor priority.
 #[derive(Clone, Copy)]
@@ -58,7 +55,7 @@ pub fn name_processors(
     message: &Message,
     from: Option<(u16, Shorthand)>,
 ) -> Result<Named, Lacks>
-    requires few_cpus { cpus ≤ 64 }
+    requires few_cpus { cpus ≤ MAX_CPUS }
     requires places { length row.now ≡ cpus }
     ensures lacking { MatchResult result (λ _. first_missing row.now (reached_by message.now from cpus) ≡ None)
         (λ l. option_map Lapic (first_missing row.now (reached_by message.now from cpus)) ≡ Some l.part) }
@@ -86,7 +83,7 @@ pub fn record_illegal(
     from: Option<(u16, Shorthand)>,
     named: &Named,
 )
-    requires few_cpus { cpus ≤ 64 }
+    requires few_cpus { cpus ≤ MAX_CPUS }
     requires places { length row.old ≡ cpus }
     requires taken { IsTrue (is_taken message.now.mode) }
     ensures { row.new ≡ accepted_by message.now named.now.all (reached_by message.now from cpus) row.old }
@@ -105,7 +102,7 @@ pub fn deliver(
     named: &Named,
     wish: &CpuSet,
 ) -> Reached
-    requires few_cpus { cpus ≤ 64 }
+    requires few_cpus { cpus ≤ MAX_CPUS }
     requires places { length row.old ≡ cpus }
     requires taken { IsTrue (is_taken message.now.mode) }
     requires legal { is_illegal message.now ≡ false }
@@ -186,7 +183,7 @@ fn name_each(
 ) -> Naming
     requires order { reach.first ≤ reach.end }
     requires places { reach.end ≤ length row.now }
-    requires few { reach.end ≤ 64 }
+    requires few { reach.end ≤ MAX_CPUS }
     ensures all { result.all ≡ numbers_of (named_in row.now (numbers_between reach.first reach.end) message.now from) }
     ensures lowest { result.lowest ≡ numbers_of (lowest_of (named_in row.now (numbers_between reach.first reach.end) message.now from)) }
 {
@@ -249,7 +246,7 @@ fn does_hear(view: &DestView, message: &Message) -> bool
 impl Naming {
     // One more processor is named, with that priority.
     fn add(&mut self, n: u16, priority: u8)
-        requires { n < 64 }
+        requires { n < MAX_CPUS }
         ensures { self.new ≡ with_named self.old n priority }
     {
         self.all.insert(n);
@@ -264,7 +261,7 @@ impl Naming {
 
 // The set with that number alone.
 fn alone(n: u16) -> CpuSet
-    requires { n < 64 }
+    requires { n < MAX_CPUS }
     ensures { result ≡ set.insert set.empty n }
 {
     let mut set = CpuSet::empty();
@@ -274,7 +271,7 @@ fn alone(n: u16) -> CpuSet
 
 // The chosen ones of the named processors: one of those with the least priority for a message sent to the lowest, else all.
 fn chosen(mode: Mode, named: &Named, wish: &CpuSet) -> CpuSet
-    requires { (k : ℕ) → IsTrue (set.contains named.now.lowest k) → k < 64 }
+    requires { (k : ℕ) → IsTrue (set.contains named.now.lowest k) → k < MAX_CPUS }
     ensures { (ps : List Processor) → Ascends ps → named.now.all ≡ numbers_of ps → named.now.lowest ≡ numbers_of (lowest_of ps) →
         result ≡ numbers_of (chosen_of mode wish.now ps) }
 {
@@ -294,7 +291,7 @@ fn goes_to_lowest(mode: Mode) -> bool
 
 // The first that is wished for, else the first, alone.
 fn preferred(lowest: &CpuSet, wish: &CpuSet) -> CpuSet
-    requires { (k : ℕ) → IsTrue (set.contains lowest.now k) → k < 64 }
+    requires { (k : ℕ) → IsTrue (set.contains lowest.now k) → k < MAX_CPUS }
     ensures { (ps : List Processor) → Ascends ps → lowest.now ≡ numbers_of ps → result ≡ numbers_of (preferred wish.now ps) }
 {
     match first_common(lowest, wish) {
@@ -308,14 +305,14 @@ fn preferred(lowest: &CpuSet, wish: &CpuSet) -> CpuSet
 
 // The least number that is in both sets.
 fn first_common(one: &CpuSet, other: &CpuSet) -> Option<u16>
-    requires { (k : ℕ) → IsTrue (set.contains one.now k) → k < 64 }
+    requires { (k : ℕ) → IsTrue (set.contains one.now k) → k < MAX_CPUS }
     ensures least { MatchOption result (set.intersection one.now other.now ≡ set.empty) (IsLeast (set.intersection one.now other.now)) }
-    ensures range { IfSome result (λ n. n < 64) }
+    ensures range { IfSome result (λ n. n < MAX_CPUS) }
 {
     if other.is_empty() {
         return None;
     }
-    for n in 0..64 {
+    for n in 0..MAX_CPUS {
         if one.has(n) && other.has(n) {
             return Some(n);
         }
@@ -326,7 +323,7 @@ fn first_common(one: &CpuSet, other: &CpuSet) -> Option<u16>
 // Each of these processors accepts the message.
 fn accept_each(row: &mut LapicRow, reach: Reach, message: &Message, takers: &CpuSet) -> Reached
     requires places { reach.end ≤ length row.old }
-    requires few { reach.end ≤ 64 }
+    requires few { reach.end ≤ MAX_CPUS }
     requires taken { IsTrue (is_taken message.now.mode) }
     ensures reached { result ≡ reached_after message.now takers.now (numbers_between reach.first reach.end) row.old
         (record { new = set.empty; stood = set.empty }) }
@@ -347,7 +344,7 @@ fn accept_each(row: &mut LapicRow, reach: Reach, message: &Message, takers: &Cpu
 impl Reached {
     // One more processor has answered.
     fn add(&mut self, n: u16, answer: Option<Accepted>)
-        requires { n < 64 }
+        requires { n < MAX_CPUS }
         ensures { self.exit.now ≡ with_answer self.entry.now n answer }
     {
         match answer {

@@ -16,6 +16,7 @@ ghost use Rattle.board_raise.specs.RowSteps.{sent_of};
 ghost use Rattle.board_raise.specs.Shown.{Leaves, Place, about_at, Shows, shown_beside, ShowsBeside, as_other, ShowsSent, IsNeeded, HoldsNeeded};
 ghost use Rattle.board_raise.specs.Signal.{pic_answer, is_accepted, send_of_pin, raise_other, raise, lowered_status, let_go, inject};
 ghost use Rattle.board_raise.specs.Told.{answer_in, IsOfMessage};
+ghost use Rattle.irq_bits.specs.declared.limits.TheConstants.{MAX_CPUS};
 
 use crate::holding::{accept_pin, let_go, let_go_after, raise_ioapic, raise_pic};
 use crate::lacks::Lacks;
@@ -29,7 +30,7 @@ use msi_decode::decode;
 use pic_8259a::PinOutcome;
 
 /// A source raises a GSI that goes to these targets (KVM API, KVM_IRQ_LINE_STATUS): it holds each of their pins as well, and a
-/// message target is sent. `cpus` is the number of the board's processors, 1 to 64; the row of local APICs has as many places.
+/// message target is sent. `cpus` is the number of the board's processors, 1 to `MAX_CPUS`; the row of local APICs has as many places.
 ///
 /// `Ok` carries the status: what the pin of the 8259A pair and the other target answer, and whom a message reached. The rig is
 /// asked for a wish once where a message is sent.
@@ -42,7 +43,7 @@ pub fn raise_gsi<R: Rig>(
     targets: &Targets,
     source: Source,
 ) -> Result<Status, Lacks>
-    requires few_cpus { cpus ≤ 64 }
+    requires few_cpus { cpus ≤ MAX_CPUS }
     requires places { length (R.held rig.old).lapics ≡ cpus }
     requires pins { PinsFit (chips_of (R.held rig.old)) }
     requires route { IsTrue (is_route targets.now) }
@@ -106,7 +107,7 @@ pub fn inject<R: Rig>(
     targets: &Targets,
     source: Source,
 ) -> Result<Status, Lacks>
-    requires few_cpus { cpus ≤ 64 }
+    requires few_cpus { cpus ≤ MAX_CPUS }
     requires places { length (R.held rig.old).lapics ≡ cpus }
     requires pins { PinsFit (chips_of (R.held rig.old)) }
     requires route { IsTrue (is_route targets.now) }
@@ -142,7 +143,7 @@ pub fn send_of_pin<R: Rig>(
     pin: u8,
     message: &Message,
 ) -> Result<Status, Lacks>
-    requires few_cpus { cpus ≤ 64 }
+    requires few_cpus { cpus ≤ MAX_CPUS }
     requires places { length (R.held rig.old).lapics ≡ cpus }
     requires pins { PinsFit (chips_of (R.held rig.old)) }
     requires pin { pin < 24 }
@@ -169,7 +170,7 @@ pub fn send_of_pin<R: Rig>(
 
 // The source raises the I/O APIC pin, and the status is that of this target alone.
 fn raise_pin<R: Rig>(rig: &mut R, cpus: u16, pin: u8, source: Source) -> Result<Status, Lacks>
-    requires few_cpus { cpus ≤ 64 }
+    requires few_cpus { cpus ≤ MAX_CPUS }
     requires places { length (R.held rig.old).lapics ≡ cpus }
     requires pins { PinsFit (chips_of (R.held rig.old)) }
     requires pin { pin < 24 }
@@ -204,7 +205,7 @@ fn raise_other<R: Rig>(
     targets: &Targets,
     source: Source,
 ) -> Result<Option<Status>, Lacks>
-    requires few_cpus { cpus ≤ 64 }
+    requires few_cpus { cpus ≤ MAX_CPUS }
     requires places { length (R.held rig.old).lapics ≡ cpus }
     requires pins { PinsFit (chips_of (R.held rig.old)) }
     requires route { IsTrue (is_route targets.now) }

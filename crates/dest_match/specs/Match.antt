@@ -5,18 +5,15 @@ use Rattle.irq_bits.specs.Fields.{bits_of}
 use Rattle.irq_bits.specs.Members.{is_set}
 use Rattle.irq_base.specs.declared.message.Message.{Message}
 use Rattle.irq_base.specs.declared.message.DestView.{DestView}
+use Rattle.dest_match.specs.declared.destination.TheConstants.{BROADCAST}
 
 -- some of the bits 0 to 7 is set in both bytes
 unfoldable pub share_a_bit : ℕ → ℕ → Bool
 share_a_bit a b = list_any (λ n. is_set a n && is_set b n) (0 ∷ 1 ∷ 2 ∷ 3 ∷ 4 ∷ 5 ∷ 6 ∷ 7 ∷ [])
 
--- the destination that all processors match
-abbrev pub broadcast : ℕ
-broadcast = 0xff
-
 -- physical: the processor of that number
 abbrev pub matches_physical : DestView → ℕ → Bool
-matches_physical view dest = dest == broadcast || dest == view.number
+matches_physical view dest = dest == BROADCAST || dest == view.number
 
 -- flat: the destination and the logical identity share a bit
 abbrev pub matches_flat : ℕ → ℕ → Bool
@@ -36,7 +33,7 @@ matches_in_model model identity dest =
 -- logical: a destination above FFh matches nothing; the logical identity is LDR bits 31 to 24
 abbrev pub matches_logical : DestView → ℕ → Bool
 matches_logical view dest =
-    if dest == broadcast then true
+    if dest == BROADCAST then true
     else if nat_lt 0xff dest then false
     else matches_in_model (bits_of view.dfr 31 28) (bits_of view.ldr 31 24) dest
 

@@ -5,9 +5,10 @@
 ghost use Rattle.std.specs.Prelude.{◌≡◌, ℕ, ◌<◌, ◌↔◌, IsTrue};
 ghost use Rattle.dest_match.specs.Match.{does_match, matches_logical, matches_in_model, share_a_bit};
 
-use irq_base::{DestView, Message};
+mod destination;
 
-const BROADCAST: u32 = 0xff;
+pub use destination::BROADCAST;
+use irq_base::{DestView, Message};
 
 const FLAT: u32 = 0b1111;
 

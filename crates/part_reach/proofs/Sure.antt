@@ -13,7 +13,7 @@ use Rattle.irq_base.specs.declared.shape.Part.{Part}
 use Rattle.irq_base.specs.declared.shape.Part.TheVariants.{Registry, Pic, Ioapic, Lapic}
 use Rattle.irq_base.specs.declared.shape.Shape.{Shape}
 use Rattle.pic_8259a.specs.Pair.{is_port}
-use Rattle.dest_match.specs.Match.{broadcast}
+use Rattle.dest_match.specs.declared.destination.TheConstants.{BROADCAST}
 use Rattle.lapic.specs.Messages.{is_taken}
 use Rattle.msi_decode.specs.Messages.{message_in, message_of}
 use Rattle.board_model.specs.Board.{Board}
@@ -40,7 +40,7 @@ alone_is_reached message cpus few = by (is_taken message.mode) refl message.logi
     by : (taken : Bool) → is_taken message.mode ≡ taken → (logical : Bool) → message.logical ≡ logical → (low : Bool) → nat_lt message.dest cpus ≡ low
         → IfSome (if taken && (not logical && low) then Some (Lapic message.dest) else None) (λ p. of_message message None cpus p ≡ true)
     by true taken false logical true low =
-        let one : nat_eq message.dest broadcast ≡ false = (grind (arith, nat_tests)) in
+        let one : nat_eq message.dest BROADCAST ≡ false = (grind (arith, nat_tests)) in
         let reached : of_tests message cpus (Lapic message.dest) true false false true ≡ true = ap (λ t. t || false) (number_itself message.dest) in
         (λ i. of_tests message cpus (Lapic message.dest) (taken i) (logical i) (one i) (low i)) ∙ reached
     by true taken false logical false low = tt

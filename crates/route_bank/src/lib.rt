@@ -1,6 +1,6 @@
 //! The published words of a board in a book: read without a turn, and written as a publication.
 //!
-//! A book over a board has 4,392 published words (`specs/Indices.antt`): where each GSI goes and whether an acknowledge of
+//! A book over a board has [`board_model::WORDS`] published words (`specs/Indices.antt`): where each GSI goes and whether an acknowledge of
 //! it is of concern to anybody, what each trigger injects, and which GSI each pin has. `targets_word`, `trigger_word` and
 //! `pin_word` read one word in one load, from the bank of the pen's last look, and the pen notes it under that look's
 //! generation: wherever that is the front's, the word is the published one. `publish` writes all words of a registry to

@@ -11,6 +11,7 @@ ghost use Rattle.board_model.specs.Routing.{trigger_of};
 ghost use Rattle.board_model.specs.Published.{trigger_word, pin_word};
 ghost use Rattle.route_bank.specs.Indices.{AreInRange, words_with};
 ghost use Rattle.route_bank.specs.Drafting.{HasFrom, SameBelow, ChangesDrafts};
+ghost use Rattle.board_model.specs.declared.width.TheConstants.{WORDS};
 
 use crate::drafting::draft;
 use crate::marks::mark;
@@ -54,7 +55,7 @@ fn draft_gsis<M: Machine>(
     requires book { pen.old.seat.table_id ≡ book.now.table.shared.table_id }
     requires knows { is_some (view_of pen.old.seat).knows ≡ true }
     requires bank { IsSpareBank book.now.table.shared.table_id.slots book.now.width (view_of pen.old.seat) bank.begin }
-    requires width { book.now.width ≡ 4392 }
+    requires width { book.now.width ≡ WORDS }
     requires marks { length marks.now ≡ 4096 }
     ensures book { pen.new.seat.table_id ≡ pen.old.seat.table_id }
     ensures knows { is_some (view_of pen.new.seat).knows ≡ true }
@@ -80,7 +81,7 @@ fn draft_triggers<M: Machine>(
     requires book { pen.old.seat.table_id ≡ book.now.table.shared.table_id }
     requires knows { is_some (view_of pen.old.seat).knows ≡ true }
     requires bank { IsSpareBank book.now.table.shared.table_id.slots book.now.width (view_of pen.old.seat) bank.begin }
-    requires width { book.now.width ≡ 4392 }
+    requires width { book.now.width ≡ WORDS }
     ensures book { pen.new.seat.table_id ≡ pen.old.seat.table_id }
     ensures knows { is_some (view_of pen.new.seat).knows ≡ true }
     ensures bank { IsSpareBank book.now.table.shared.table_id.slots book.now.width (view_of pen.new.seat) bank.begin }
@@ -101,7 +102,7 @@ fn draft_pics<M: Machine>(book: &TurnBook<M>, pen: &mut Pen<M>, bank: SpareBank,
     requires book { pen.old.seat.table_id ≡ book.now.table.shared.table_id }
     requires knows { is_some (view_of pen.old.seat).knows ≡ true }
     requires bank { IsSpareBank book.now.table.shared.table_id.slots book.now.width (view_of pen.old.seat) bank.begin }
-    requires width { book.now.width ≡ 4392 }
+    requires width { book.now.width ≡ WORDS }
     ensures book { pen.new.seat.table_id ≡ pen.old.seat.table_id }
     ensures knows { is_some (view_of pen.new.seat).knows ≡ true }
     ensures bank { IsSpareBank book.now.table.shared.table_id.slots book.now.width (view_of pen.new.seat) bank.begin }
@@ -121,7 +122,7 @@ fn draft_ioapics<M: Machine>(book: &TurnBook<M>, pen: &mut Pen<M>, bank: SpareBa
     requires book { pen.old.seat.table_id ≡ book.now.table.shared.table_id }
     requires knows { is_some (view_of pen.old.seat).knows ≡ true }
     requires bank { IsSpareBank book.now.table.shared.table_id.slots book.now.width (view_of pen.old.seat) bank.begin }
-    requires width { book.now.width ≡ 4392 }
+    requires width { book.now.width ≡ WORDS }
     ensures book { pen.new.seat.table_id ≡ pen.old.seat.table_id }
     ensures knows { is_some (view_of pen.new.seat).knows ≡ true }
     ensures bank { IsSpareBank book.now.table.shared.table_id.slots book.now.width (view_of pen.new.seat) bank.begin }
@@ -151,7 +152,7 @@ pub fn publish<M: Machine>(
 )
     requires book { pen.old.seat.table_id ≡ book.now.table.shared.table_id }
     requires knows { is_some (view_of pen.old.seat).knows ≡ true }
-    requires width { book.now.width ≡ 4392 }
+    requires width { book.now.width ≡ WORDS }
     requires range { AreInRange irqfds.now watches.now tick }
     ensures book { pen.new.seat.table_id ≡ pen.old.seat.table_id }
     ensures drafted { AreDrafted (words_with words.now irqfds.now watches.now tick) (view_of pen.new.seat).drafts }

@@ -4,6 +4,7 @@ ghost use Rattle.turn_book.specs.Histories.{last_of};
 ghost use Rattle.turn_book.specs.Views.{view_of, slots_of, noted_view};
 ghost use Rattle.route_table.specs.Pins.{IsPin};
 ghost use Rattle.route_bank.specs.Indices.{index_of_trigger, index_of_pin};
+ghost use Rattle.board_model.specs.declared.width.TheConstants.{WORDS};
 
 use irq_base::Pin;
 use turn_book::{Machine, Pen, TurnBook};
@@ -13,7 +14,7 @@ use turn_book::{Machine, Pen, TurnBook};
 pub fn index_of_pin(pin: Pin) -> u32
     requires { IsPin pin }
     ensures value { result ≡ index_of_pin pin }
-    ensures within { result < 4392 }
+    ensures within { result < WORDS }
 {
     match pin {
         Pin::Pic(number) => 4352 + u32::from(number),
@@ -28,7 +29,7 @@ pub fn index_of_pin(pin: Pin) -> u32
 pub fn targets_word<M: Machine>(book: &TurnBook<M>, pen: &mut Pen<M>, gsi: u16) -> u64
     requires book { pen.old.seat.table_id ≡ book.now.table.shared.table_id }
     requires looked { is_some (last_of (view_of pen.old.seat).looks) ≡ true }
-    requires width { book.now.width ≡ 4392 }
+    requires width { book.now.width ≡ WORDS }
     requires gsi { gsi < 4096 }
     ensures book { pen.new.seat.table_id ≡ pen.old.seat.table_id }
     ensures noted { IfSome (last_of (view_of pen.old.seat).looks) (λ had. view_of pen.new.seat
@@ -46,7 +47,7 @@ pub fn targets_word<M: Machine>(book: &TurnBook<M>, pen: &mut Pen<M>, gsi: u16) 
 pub fn trigger_word<M: Machine>(book: &TurnBook<M>, pen: &mut Pen<M>, trigger: u16) -> u64
     requires book { pen.old.seat.table_id ≡ book.now.table.shared.table_id }
     requires looked { is_some (last_of (view_of pen.old.seat).looks) ≡ true }
-    requires width { book.now.width ≡ 4392 }
+    requires width { book.now.width ≡ WORDS }
     requires trigger { trigger < 256 }
     ensures book { pen.new.seat.table_id ≡ pen.old.seat.table_id }
     ensures noted { IfSome (last_of (view_of pen.old.seat).looks) (λ had. view_of pen.new.seat
@@ -63,7 +64,7 @@ pub fn trigger_word<M: Machine>(book: &TurnBook<M>, pen: &mut Pen<M>, trigger: u
 pub fn pin_word<M: Machine>(book: &TurnBook<M>, pen: &mut Pen<M>, pin: Pin) -> u64
     requires book { pen.old.seat.table_id ≡ book.now.table.shared.table_id }
     requires looked { is_some (last_of (view_of pen.old.seat).looks) ≡ true }
-    requires width { book.now.width ≡ 4392 }
+    requires width { book.now.width ≡ WORDS }
     requires pin { IsPin pin }
     ensures book { pen.new.seat.table_id ≡ pen.old.seat.table_id }
     ensures noted { IfSome (last_of (view_of pen.old.seat).looks) (λ had. view_of pen.new.seat

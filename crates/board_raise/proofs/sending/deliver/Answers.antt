@@ -8,13 +8,14 @@ use Rattle.board_raise.proofs.OnHand.{reached_apart}
 use Rattle.board_raise.proofs.Preferred.{ascends_filtered, ascends_between}
 use Rattle.board_raise.proofs.Delivered.{delivered, row_delivered, lowest_below}
 use Rattle.board_raise.proofs.sending.deliver.Goals as goal
+use Rattle.irq_bits.specs.declared.limits.TheConstants.{MAX_CPUS}
 
 pub chosen-takers-requires : goal.chosen-takers-requires
 chosen-takers-requires c = λ k h.
     let reach = c.reach_of-reach.result in
-    let few : reach.end ≤ 64 = omega (c.reach_of-reach.ensures.end, c.requires.few_cpus, arith) in
+    let few : reach.end ≤ MAX_CPUS = omega (c.reach_of-reach.ensures.end, c.requires.few_cpus, arith) in
     let lowest = c.requires.lowest ∙ ap (λ l. numbers_of (lowest_of (named_in c.args.row.now l c.args.message.now c.args.from))) (sym c.reach_of-reach.ensures.numbers) in
-    lowest_below c.args.row.now reach.first reach.end 64 c.args.message.now c.args.from c.reach_of-reach.ensures.order few k (ap (λ s. set.contains s k) (sym lowest) ∙ h)
+    lowest_below c.args.row.now reach.first reach.end MAX_CPUS c.args.message.now c.args.from c.reach_of-reach.ensures.order few k (ap (λ s. set.contains s k) (sym lowest) ∙ h)
 
 takers : (c : goal.After-accept_each) → c.chosen-takers.result ≡ numbers_of (chosen_of c.args.message.now.mode c.args.wish.now (named_in c.args.row.now (reached_by c.args.message.now c.args.from c.args.cpus) c.args.message.now c.args.from))
 takers c =
