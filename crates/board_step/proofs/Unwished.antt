@@ -64,3 +64,6 @@ pub placed_by : (b : Board) (who : Caller) (call : Call) (result : Result Done S
     → IfOk result (λ done. Applied b who call done before now c) → IfOk result (λ done. done.at ≡ b.length)
 placed_by b who call (Ok done) before now c applied = applied.at
 placed_by b who call (Err spent) before now c applied = tt
+
+-- what `Board::apply` ensures, of the list that it has cleared
+pub ruleset applied_whole = (unwished_by, placed_by)

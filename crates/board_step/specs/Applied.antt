@@ -1,5 +1,5 @@
 -- One call on a board in code, and limits that are reached (this board's own rule).
-use Rattle.std.specs.Prelude.{◌≡◌, Bool, true, ◌&&◌, nat_eq, List, [], ◌∷◌, Some, None, Ok, Err}
+use Rattle.std.specs.Prelude.{◌≡◌, Bool, true, ◌&&◌, nat_eq, List, [], ◌∷◌, Some, None, IfOk, OnErr, MatchResult}
 use Rattle.std.specs.declared.option.Option.{Option}
 use Rattle.std.specs.declared.result.Result.{Result}
 use Rattle.irq_base.specs.Room.{with_told}
@@ -40,10 +40,13 @@ abbrev pub UnwishedStep : Board → Entry → Board → Type 0
 UnwishedStep b e c = (step : Step b e c) × (step.wishes ≡ [])
 
 -- a call was asked of a board, which handed out these events and gave this answer: its entry leads to the board after, at the place that
--- is answered; or this limit bars it, no event is handed out, and the board is as before
-abbrev pub IsAskedOf : Board → Caller → Call → List Event → Result Done Spent → Board → Type 0
-IsAskedOf b caller call events (Ok done) c = (done.at ≡ b.length) × UnwishedStep b (entry_of caller call done.reply events) c
-IsAskedOf b caller call events (Err spent) c = (spent_of b call ≡ Some spent) × (events ≡ []) × (c ≡ b)
+-- is answered; or the limit that is answered bars it, no event is handed out, and the board is as before
+pub record IsAskedOf (b : Board) (caller : Caller) (call : Call) (events : List Event) (answer : Result Done Spent) (c : Board) : Type 0 where
+  pub spent : MatchResult answer (λ _. spent_of b call ≡ None) (λ spent. spent_of b call ≡ Some spent)
+  pub at : IfOk answer (λ done. done.at ≡ b.length)
+  pub whole : IfOk answer (λ done. UnwishedStep b (entry_of caller call done.reply events) c)
+  pub stays : OnErr answer (c ≡ b)
+  pub quiet : OnErr answer (events ≡ [])
 
 -- whether a limit that barred a call is one of the board's shape, and is reached; none need be
 abbrev pub is_reached : Board → Option Spent → Bool

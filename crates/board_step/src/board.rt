@@ -124,6 +124,7 @@ impl Board {
     ///
     /// `Spent` names the limit that bars the call: that of calls, or, where the call would be a publication, that of
     /// publications. Then nothing changes, and the list is empty. It takes no memory.
+    #[tactic(auto, using(crate::proofs::Unwished::applied_whole))]
     pub fn apply(&mut self, caller: Caller, call: &Call, events: &mut Events) -> Result<Done, Spent>
         requires { is_allowed caller call.now self.old.shape ≡ true }
         ensures spent { MatchResult result (λ _. spent_of self.old call.now ≡ None) (λ spent. spent_of self.old call.now ≡ Some spent) }

@@ -1,7 +1,7 @@
 //! One caller's way to a board on one thread.
 ghost use Rattle.std.specs.Prelude.{◌≡◌, true};
-ghost use Rattle.irq_base.specs.Callers.{is_there};
-ghost use Rattle.board_step.specs.Applied.{is_reached};
+ghost use Rattle.irq_base.specs.Callers.{is_allowed, is_there};
+ghost use Rattle.board_step.specs.Applied.{is_reached, IsAskedOf};
 
 use crate::board::Board;
 use irq_base::{Call, Caller, Done, Events, Face, Spent, Stops};
@@ -16,6 +16,14 @@ pub struct OnBoard<'a> {
     pub stops: Stops,
     pub ghost there: { is_there caller board.now.shape ≡ true },
     pub ghost reached: { is_reached board.now stops.last ≡ true },
+}
+
+// The call on the board, with all that the board promises of it.
+fn asked(board: &mut Board, caller: Caller, call: &Call, events: &mut Events) -> Result<Done, Spent>
+    requires { is_allowed caller call.now board.old.shape ≡ true }
+    ensures { IsAskedOf board.old caller call.now events.new.items result board.new }
+{
+    board.apply(caller, call, events)
 }
 
 impl<'a> Face for OnBoard<'a> {
@@ -50,7 +58,7 @@ impl<'a> Face for OnBoard<'a> {
 
     fn ask(&mut self, call: &Call, events: &mut Events) -> Result<Done, Spent> {
         self.board.keeps_sound();
-        match self.board.apply(self.caller, call, events) {
+        match asked(self.board, self.caller, call, events) {
             Ok(done) => Ok(done),
             Err(spent) => {
                 self.stops.stop(spent);
