@@ -52,8 +52,9 @@ fn run<R: Threads + Wait + Sync, G: Gate>(
     }
 }
 
-// Scripts, with the outcome and the entries: of one actor, of none, of one that a limit stops, and of three of which it stops some.
-const RUNS: [(&str, Outcome, u64); 4] = [
+// Scripts, with the outcome and the entries: of one actor, of none, of one that a limit stops, and of three of which it stops some; and those
+// in which both limits are reached, where the limit is told that barred the call of the first actor that was stopped.
+const RUNS: [(&str, Outcome, u64); 8] = [
     (FIRST_SCRIPT, Outcome::Fine, 4),
     ("irqboard 1\ncpus 1\nend\n", Outcome::Fine, 0),
     (
@@ -69,6 +70,34 @@ const RUNS: [(&str, Outcome, u64); 4] = [
             spent: Spent::Calls { at: 3 },
         },
         3,
+    ),
+    (
+        "irqboard 1\ncpus 1\ncalls 1\npublications 0\ncpu0 repeat 2 ack\nend\n",
+        Outcome::Spent {
+            spent: Spent::Calls { at: 1 },
+        },
+        1,
+    ),
+    (
+        "irqboard 1\ncpus 1\ncalls 1\npublications 0\ndev0 watch 3 8\nend\n",
+        Outcome::Spent {
+            spent: Spent::Publications { at: 0 },
+        },
+        0,
+    ),
+    (
+        "irqboard 1\ncpus 1\ncalls 1\npublications 0\ndev0 take 2\ndev0 watch 3 8\nend\n",
+        Outcome::Spent {
+            spent: Spent::Calls { at: 1 },
+        },
+        1,
+    ),
+    (
+        "irqboard 1\ncpus 1\ncalls 1\npublications 0\ncpu0 repeat 2 ack\ndev0 watch 3 8\nend\n",
+        Outcome::Spent {
+            spent: Spent::Calls { at: 1 },
+        },
+        1,
     ),
 ];
 
