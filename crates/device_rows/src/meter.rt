@@ -33,6 +33,7 @@ impl Meter {
 
 impl Face for Meter {
     ghost use Rattle.std.specs.Prelude.{Some, None};
+    ghost use Rattle.irq_base.specs.declared.reply.Spent.TheVariants.{Calls};
 
     ghost shape = { λ _. record { cpus = 1; counters = 0; tick = 0; calls = 0; publications = 0 } };
 
@@ -50,7 +51,9 @@ impl Face for Meter {
 
     ghost left = { λ f. Some (f.calls - f.asked) };
 
-    ghost barred = { λ f _. f.calls ≡ f.asked };
+    ghost barred = { λ f _ spent. (f.calls ≡ f.asked) × (spent ≡ Calls f.asked) };
+
+    ghost keeps = { λ f _ _ _ g. f.asked ≤ g.asked };
 
     fn caller(&self) -> Caller {
         Caller::Device(7)
