@@ -53,6 +53,7 @@ module _ {F : Type 0} (face : Ghosts F) {N : ℕ} where
     step = (can, record { placed = placed; one = refl; call = is; reply_is = refl }, refl);
     asked = answered.answered;
     stops = answered.stops;
+    barred = tt;
     enough = always (face.left before) _ (λ _ _. refl);
   }
     where
@@ -141,6 +142,7 @@ module _ {F : Type 0} (face : Ghosts F) {N : ℕ} where
         };
         asked = subst (HasAnswered face before after) (append-nil (calls_in so_far.sent)) (answered_then face before between after (calls_in so_far.sent) [] so_far.asked answered.answered);
         stops = (subst (λ n. Rose n (face.stops after)) so_far.stops.0 answered.stops.0, answered.stops.1);
+        barred = (k, subst (λ (asked : Call). face.barred after asked spent) is answered.barred);
         enough = not_barred (face.left before) (face.left between) (length (calls_in so_far.sent)) (length (due f)) (Some spent ≡ None) so_far.asked.left fewer
             (if_some (face.left between) _ (λ left. 0 < left → ⊥) (λ left ok some. true≢false (sym (ok some (ap may_publish is)))) answered.enough);
       }
@@ -169,5 +171,6 @@ module _ {F : Type 0} (face : Ghosts F) {N : ℕ} where
       };
       asked = so_far.asked;
       stops = so_far.stops;
+      barred = tt;
       enough = always (face.left before) _ (λ _ _. refl);
     }

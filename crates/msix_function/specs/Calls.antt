@@ -5,12 +5,16 @@ use Rattle.std.specs.declared.result.Result.{Result}
 use Rattle.face_asks.specs.Asks.{HasAnswered, StopTold, limit_in}
 use Rattle.irq_base.specs.declared.face.Face.{Ghosts}
 use Rattle.irq_base.specs.declared.reply.Spent.{Spent}
-use Rattle.msix_function.specs.Functions.{due, stored, controlled}
-use Rattle.msix_function.specs.Operations.{Sending, Operation, IsStep, SendsDue, calls_in}
+use Rattle.msix_function.specs.Functions.{message_at, due}
+use Rattle.msix_function.specs.Operations.{Sending, Operation, IsStep, SendsDue, call_of, calls_in}
 use Rattle.msix_function.specs.declared.function.Function.{Function}
 
 -- the face told of an operation: it answered just the messages sent, and a limit that is answered barred one
 module _ {F : Type 0} (face : Ghosts F) {N : ℕ} where
+  -- this limit bars the message of an entry
+  abbrev pub BarsOne : F → Function N → Spent → Type 0
+  BarsOne f now spent = (k : ℕ) × face.barred f (call_of (message_at now k)) spent
+
   -- an operation, which sends so many messages where no limit bars one
   pub record Operates {A : Type 0} (operation : Result A Spent → List Sending → Operation) (messages : ℕ) (answer : Result A Spent)
       (before after : F) (old new : Function N) : Type 0 where
@@ -18,6 +22,7 @@ module _ {F : Type 0} (face : Ghosts F) {N : ℕ} where
     pub step : IsStep old (operation answer sent) new
     pub asked : HasAnswered face before after (calls_in sent)
     pub stops : StopTold face (limit_in answer) before after
+    pub barred : IfErr answer (BarsOne after new)
     -- no limit bars one where the face tells that so many calls are left to it
     pub enough : IfSome (face.left before) (λ left. messages ≤ left → limit_in answer ≡ None)
 
@@ -27,4 +32,5 @@ module _ {F : Type 0} (face : Ghosts F) {N : ℕ} where
     pub sends : SendsDue old answer sent new
     pub asked : HasAnswered face before after (calls_in sent)
     pub stops : StopTold face (limit_in answer) before after
+    pub barred : IfErr answer (BarsOne after new)
     pub enough : IfSome (face.left before) (λ left. length (due old) ≤ left → limit_in answer ≡ None)
