@@ -51,4 +51,4 @@ module _ {F : Type 0} (face : Ghosts F) where
   pub record IsBarred (spent : Spent) (before after : F) : Type 0 where
     pub stops : Rose (face.stops before) (face.stops after)
     pub last : face.last after ≡ Some spent
-    pub barred : face.barred after Tick
+    pub barred : face.barred after Tick spent
