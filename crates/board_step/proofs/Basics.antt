@@ -4,11 +4,10 @@ pub use Rattle.board_raise.specs.declared.parts.PicPart as pic
 pub use Rattle.ack_notifiers.specs.Rows.{has_counter, has_row as has_watch_row, has_watch, is_named as is_named_watch, watch_events, watched, with_row as with_watch, without_row as without_watch}
 pub use Rattle.ack_notifiers.specs.declared.watches.Watch.{Watch}
 pub use Rattle.board_ack.proofs.AcknowledgeSteady.{each_keeps, in_event, resend_keeps, tick_keeps}
-pub use Rattle.board_ack.proofs.Counting.{HasRegistry, acknowledge_tells, again_for, each_events, each_tells, inject_tick_tells, registry_kind, resend_tells, rows_for, tell_tells, ticks_for}
+pub use Rattle.board_ack.proofs.Counting.{HasRegistry, again_for, each_events, each_tells, inject_tick_tells, registry_kind, resend_tells, rows_for, tell_tells, ticks_for}
 pub use Rattle.board_ack.proofs.ReachAcknowledge.{each_reach, each_same, gsi_same, inject_tick_reach, resend_reach, twice}
 pub use Rattle.board_ack.specs.Acknowledge.{acknowledge, acknowledge_each, clear_and_resend, end_level, end_tick, notify, resample, resample_and_notify, resend, say_each, signal_each, tell_concerned}
-pub use Rattle.board_ack.specs.OnHand.{entry_ended}
-pub use Rattle.board_ack.specs.ReachLaws.{board_by, of_acknowledge, of_acknowledge_each, of_gsi, of_level, of_marked, of_resend, of_tick}
+pub use Rattle.board_ack.specs.ReachLaws.{board_by, of_acknowledge, of_acknowledge_each, of_gsi, of_level, of_marked, of_resend}
 pub use Rattle.board_ack.specs.Ticks.{acknowledge_tick, inject_next, inject_tick}
 pub use Rattle.board_calls.proofs.Numbers.{given_number, service_number, store_number}
 pub use Rattle.board_calls.proofs.Room.{quiet_tells}
@@ -55,7 +54,7 @@ pub use Rattle.board_raise.proofs.SignalReach.{signals_reach_the_same}
 pub use Rattle.board_raise.proofs.SignalSteady.{inject_keeps, let_go_keeps, lower_keeps, raise_keeps, send_keeps}
 pub use Rattle.board_raise.specs.BoardRig.{words_in}
 pub use Rattle.board_raise.specs.Fit.{Fits, InLimits, IoapicFits, IrqfdFits, PairFits, Pins, PinsFit, RegistrationsFit, WatchFits}
-pub use Rattle.board_raise.specs.InHand.{chips_of, ioapic_of as ioapic_at_hand, parts_of, pic_of, registry_of}
+pub use Rattle.board_raise.specs.InHand.{chips_of, parts_of, pic_of, registry_of}
 pub use Rattle.board_raise.specs.Laws.{HasProcessors, IsSending, IsSent, has_request_on, named_on, processors_on}
 pub use Rattle.board_raise.specs.Named.{MayReach, Processor, chosen_of, does_hear, is_addressed, is_named as is_named_cpu, named_by, numbers_of}
 pub use Rattle.board_raise.specs.OnRow.{apic_in}
@@ -71,21 +70,18 @@ pub use Rattle.board_step.specs.Applied.{Applied, LeadsOn, Ran, UnwishedStep, is
 pub use Rattle.board_step.specs.Bodies.{BodiesStep, BodyLeads, Did, DoneLeads, IsOf, IsStepFrom, IsWorth, LeadsFrom, MayCall, Stepped, entry_of, plan_by}
 pub use Rattle.board_step.specs.Due.{AnswersDue, IsDue, due_by, due_in, given_due}
 pub use Rattle.board_step.specs.History.{Leads, Legal, board_after, next_board, opening, opening_ioapic, opening_pic, opening_registry, wish_of, wish_replied, wish_shown, wishes_shown, wishes_told}
-pub use Rattle.board_step.specs.Laws.{AgreesForCall, AlwaysAnswers, AnswersOnce, DependsOnReach, HistoriesKeepSound, IsTyped, OpeningIsSound, PayloadFits, ReachIsNow, ReachIsTable, RefusesRightly, SamePart, StaysOutsideReach, StepsAreFollowed, StepsKeepSound, StepsTellFew}
+pub use Rattle.board_step.specs.Laws.{AgreesForCall, AlwaysAnswers, AnswersOnce, DependsOnReach, HistoriesKeepSound, IsTyped, OpeningIsSound, PayloadFits, ReachIsTable, RefusesRightly, SamePart, StaysOutsideReach, StepsAreFollowed, StepsKeepSound, StepsTellFew}
 pub use Rattle.board_step.specs.Opening.{OpensIoapic, OpensPic, OpensRig, opening_row}
 pub use Rattle.board_step.specs.Owned.{IsKept, board_in}
 pub use Rattle.board_step.specs.Publications.{HistoriesKeepTheFrame, KeepsTheFrame, LegalHistoriesCount, LimitsAreTold, PublicationsReachTheRegistry, ReachIsThere, StepsKeepTheFrame, StepsShowPublications, WordsStayAlong, spent_by, words}
 pub use Rattle.board_step.specs.Reach.{does_inject, of_ack, of_call, of_counter, of_cycle, of_effect, of_end, of_load, of_pair, of_ring, of_rung, of_store, of_write, of_written, reach}
-pub use Rattle.board_step.specs.ReachNow.{cleared, freed, of_acknowledge_now, of_acknowledges_now, part_cleared, part_freed, pin_freed, reach_now}
-pub use Rattle.board_step.specs.Seen.{PartsFit, SeenFits, board_seen, if_of, is_ended, is_free, is_trigger_in, routing_seen}
 pub use Rattle.board_step.specs.Sound.{AreDistinct, HasResampler, HoldsStand, IsSound, LapicsStand, ResamplersHold}
 pub use Rattle.board_step.specs.Step.{Step, counted, did_publish, does_publish, is_done, is_publication, is_removed, later_reasons, outcome_of, plan_on, publishes_unless, refusal_of as refusal_on, spent_of, with_counts, would_publish}
 pub use Rattle.board_step.specs.Whole.{AllPartsAreWhole, BoardHasItsParts, IsWhole, PartsMakeTheirBoard, WholePartsAreAll, board_of, is_part}
 pub use Rattle.event_counter.specs.Counters.{taken, what_is_read, written}
-pub use Rattle.ioapic_82093aa.specs.Entries.{entry_at_power_on, message_of}
+pub use Rattle.ioapic_82093aa.specs.Entries.{message_of}
 pub use Rattle.ioapic_82093aa.specs.Pins.{Written, entry_at, has_vector, ioapic_at_power_on, pin_accepted, pin_acked, raise_of, read_from, register_written, resend_of, write_to}
 pub use Rattle.ioapic_82093aa.specs.Registers.{register_of}
-pub use Rattle.ioapic_82093aa.specs.declared.entry.Entry.{Entry as IoEntry}
 pub use Rattle.ioapic_82093aa.specs.declared.ioapic.Ioapic.{Ioapic as IoapicChip}
 pub use Rattle.ioapic_82093aa.specs.declared.ioapic.Raise.{Raise}
 pub use Rattle.ioapic_82093aa.specs.declared.registers.Register.{Register}
@@ -165,9 +161,9 @@ pub use Rattle.route_table.specs.Rows.{Table, gsi_in, ioapic_in, is_same as is_s
 unfoldable pub use Rattle.route_table.specs.Rows.{msi_in, reasons_after}
 pub use Rattle.route_table.specs.Standing.{Stands, fits_if, with_owner, word_with}
 pub use Rattle.route_table.specs.Words.{is_below, is_route, is_route_of}
-pub use Rattle.source_levels.proofs.HoldLemmas.{held_where_high, high_where_held, hold_cmp-IsAntisymmetric, hold_cmp_total, tied_same}
+pub use Rattle.source_levels.proofs.HoldLemmas.{hold_cmp-IsAntisymmetric, hold_cmp_total, tied_same}
 pub use Rattle.source_levels.specs.Holds.{Hold, Holds, hold, hold_cmp, is_high}
-pub use Rattle.std.proofs.Common.{All, Any, Bool, Err, IfOk, IfSome, IsTrue, List, None, Ok, Result, Some, [], add-one, ap, append-nil, append_assoc, arith, cond, drop, eqb, false, filter, get_or, if◌then◌else◌, inl, inr, is_some, length, length-append, length-set, map, min, nat_eq, nat_le, nat_lt, not, option_map, refl, replicate, slice_get, slice_index, slice_index_or, slice_set, subst, suc, suc-le-suc, sym, take as first_items, true, true≢false, unwrap_or, zero, zero-add, zero-le, ℕ, ◌%◌, ◌&&◌, ◌++◌, ◌+◌, ◌-◌, ◌<◌, ◌^◌, ◌||◌, ◌↔◌, ◌∙◌, ◌∷◌, ◌≡◌, ◌≢◌, ◌≤◌, ◌⊎◌}
+pub use Rattle.std.proofs.Common.{All, Any, Bool, Err, IfOk, IfSome, IsTrue, List, None, Ok, Result, Some, [], add-one, ap, append-nil, append_assoc, arith, cond, drop, eqb, false, filter, get_or, if◌then◌else◌, inl, inr, is_some, length, length-append, length-set, map, min, nat_eq, nat_le, nat_lt, not, option_map, refl, replicate, slice_get, slice_index, slice_set, subst, suc, suc-le-suc, sym, take as first_items, true, true≢false, unwrap_or, zero, zero-add, zero-le, ℕ, ◌%◌, ◌&&◌, ◌++◌, ◌+◌, ◌-◌, ◌<◌, ◌^◌, ◌||◌, ◌↔◌, ◌∙◌, ◌∷◌, ◌≡◌, ◌≢◌, ◌≤◌, ◌⊎◌}
 pub use Rattle.std.proofs.Math.Seq.{take-suc}
 pub use Rattle.std.proofs.lemmas.Bool.Decides.{eqb_tells, leb_tells, nat_tests}
 pub use Rattle.std.proofs.lemmas.List.Elements.{All-append, All-cons, All-filter, All-from_recursion, All-head, All-nil, All-push, All-replicate, All-set, All-tail, All-weaker, AllWithin-more, Contains-append_left, Contains-append_right, filter-append, recursion_from_All}

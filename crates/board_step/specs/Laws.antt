@@ -22,7 +22,6 @@ use Rattle.board_model.specs.Run.{Wishes, Log, reaches as plan_reaches, run}
 use Rattle.board_raise.specs.Fit.{InLimits}
 use Rattle.board_step.specs.Step.{refusal_of, would_publish, spent_of, plan_on, outcome_of, Step}
 use Rattle.board_step.specs.Reach.{reach}
-use Rattle.board_step.specs.ReachNow.{reach_now}
 use Rattle.board_step.specs.Sound.{IsSound}
 use Rattle.board_step.specs.History.{opening, Leads, wishes_shown, next_board, board_after}
 
@@ -82,10 +81,6 @@ abbrev pub ReachIsTable : Type 0
 ReachIsTable =
     (b : Board) (caller : Caller) (call : Call) (ws : Wishes) (q : Part)
     → plan_reaches (plan_on b caller call) b ws q ≡ reach b caller call q
-
--- on a sound board what a call reaches is told by the board before it, without runs
-abbrev pub ReachIsNow : Type 0
-ReachIsNow = (b : Board) (caller : Caller) (call : Call) (q : Part) → IsSound b → reach b caller call q ≡ reach_now b caller call q
 
 -- a step changes no part outside its reach
 abbrev pub StaysOutsideReach : Type 0

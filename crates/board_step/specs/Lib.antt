@@ -1,7 +1,6 @@
 pub mod Step
 pub mod Reach
 pub mod Publications
-pub mod ReachNow
 pub mod Sound
 pub mod History
 pub mod Laws
@@ -10,6 +9,5 @@ pub mod Applied
 pub mod Whole
 pub mod Opening
 pub mod Owned
-pub mod Seen
 pub mod Due
 pub mod Requests

@@ -24,12 +24,11 @@ use crate::due::{Due, due_in_hand};
 use crate::limits::{barred_by, would_publish_in};
 use crate::open::OpenError;
 use crate::opening::{is_in_limits, rig};
-use crate::reach_calls::reach_in_hand;
 use crate::requests::{nmi_in_hand, requests_in_hand};
 use crate::step::step_on;
 use crate::typed::calls_are_typed;
 use board_raise::{BoardRig, Parts, Words};
-use irq_base::{Call, Caller, Done, Events, NoMemory, Part, Shape, Spent};
+use irq_base::{Call, Caller, Done, Events, NoMemory, Shape, Spent};
 use irq_bits::{CpuSet, Set256};
 use std::alloc::Global;
 use std::marker::Model;
@@ -202,13 +201,13 @@ impl Board {
         nmi_in_hand(self.rig.all(), cpu)
     }
 
-    /// Whether a call by that caller would reach the part: look at it, or change it. It tells what the board is now, and it runs
-    /// nothing: whom a message is given to makes no difference. To read where GSIs, pins and triggers go reaches no part.
-    pub fn reach(&self, caller: Caller, call: &Call, part: Part) -> bool
-        requires { is_allowed caller call.now self.now.shape ≡ true }
-        ensures { result ≡ reach self.now caller call.now part }
+    /// All its parts, to be read. They fit its shape.
+    pub fn parts(&self) -> &Parts
+        ensures parts { parts_of result.now ≡ all_parts self.now }
+        ensures whole { IsWhole self.now.shape (parts_of result.now) }
+        ensures fits { Fits self.now.shape (parts_of result.now) (chips_of result.now) }
     {
-        reach_in_hand(self.rig.all(), &self.shape, caller, call, part)
+        self.rig.all()
     }
 
     /// All its parts, which fit its shape, and the words that it publishes.

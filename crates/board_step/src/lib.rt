@@ -1,9 +1,9 @@
 //! The one-thread board: one call is one step, and what a legal history of calls is.
 //!
-//! What each call does stands in `board_calls`. Reading order of the definitions: `Step` (one call is one step), `Reach` and
-//! `ReachNow`, `Sound`, `History`, and then what holds of every step: `Laws`, `Publications`; what a body is worth that runs a
-//! call on parts in hand: `Bodies`, `Applied`; the board of all parts: `Whole`, `Opening`, `Owned`, `Due`, `Seen`. What holds
-//! along every legal history stands in `board_laws`.
+//! What each call does stands in `board_calls`. Reading order of the definitions: `Step` (one call is one step), `Reach`,
+//! `Sound`, `History`, and then what holds of every step: `Laws`, `Publications`; what a body is worth that runs a
+//! call on parts in hand: `Bodies`, `Applied`; the board of all parts: `Whole`, `Opening`, `Owned`, `Due`. What a call
+//! reaches, asked of a board, stands in `board_reach`, and what holds along every legal history in `board_laws`.
 //!
 //! `Board` is the board on one thread. The functions without a body are laws: the contract of each is what holds.
 #![tactic(auto)]
@@ -20,14 +20,8 @@ mod open;
 mod opening;
 mod publications;
 mod reach;
-mod reach_accesses;
-mod reach_acks;
-mod reach_calls;
-mod reach_registrations;
-mod reach_signals;
 mod requests;
 mod same;
-mod seen;
 mod sound;
 mod step;
 mod typed;
@@ -48,9 +42,9 @@ pub use publications::{
     publications_reach_the_registry, reach_is_there, steps_keep_the_frame, steps_show_publications,
     words_stay_along,
 };
-pub use reach::{depends_on_reach, reach_is_now, reach_is_table, stays_outside_reach};
+pub use reach::{depends_on_reach, reach_is_table, stays_outside_reach};
 pub use sound::{histories_keep_sound, opening_is_sound, steps_keep_sound};
-pub use step::step_on;
+pub use step::{number_of, step_on};
 pub use typed::calls_are_typed;
 pub use whole::{
     all_parts_are_whole, board_has_its_parts, parts_make_their_board, whole_parts_are_all,

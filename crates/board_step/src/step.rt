@@ -17,8 +17,8 @@ use board_calls::{
 use board_raise::{Lacks, Rig};
 use irq_base::{Call, Caller, Events, Reply, Shape};
 
-// The number of the caller.
-pub(crate) fn number_of(caller: Caller) -> u16
+/// The number of the caller: that of a device, or of a processor.
+pub fn number_of(caller: Caller) -> u16
     ensures { result ≡ number_of caller }
 {
     match caller {

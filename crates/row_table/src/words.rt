@@ -2,6 +2,7 @@
 ghost use Rattle.std.specs.Prelude.{◌≡◌, true};
 ghost use Rattle.irq_base.specs.Callers.{is_allowed};
 
+use board_reach::Reach;
 use board_step::{Board, Due};
 use irq_base::{Call, Caller, Events, Part, Spent};
 use script_text::{ActorLine, Script, Task, parse};

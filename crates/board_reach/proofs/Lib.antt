@@ -1,0 +1,8 @@
+pub mod Basics
+pub mod Pins
+pub mod Apart
+pub mod Lists
+pub mod Tables
+pub mod SeenParts
+pub mod SeenRows
+pub mod SeenNow

@@ -1,0 +1,2 @@
+pub mod ReachNow
+pub mod Seen

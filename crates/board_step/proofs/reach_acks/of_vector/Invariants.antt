@@ -1,7 +1,0 @@
-use Rattle.board_step.proofs.Basics.{◌≡◌, ◌≤◌, false, is_ended}
-use Rattle.board_step.proofs.SeenNow.{any_below}
-use Rattle.board_step.proofs.reach_acks.of_vector.Given as goal
-
--- no pin so far is one that is ended and reaches the part
-abbrev pub invariant-loop-pin : goal.invariant-loop-pin
-invariant-loop-pin l = (l.pin ≤ 24) × (any_below (is_ended l.seen l.vector l.part) l.pin ≡ false)
