@@ -31,6 +31,7 @@ use Rattle.board_step.specs.Reach.{of_written, of_rung, of_cycle, of_call, does_
 use Rattle.board_reach.specs.ReachNow.{cleared, of_acknowledge_now, of_acknowledges_now}
 use Rattle.board_step.specs.Whole.{IsWhole}
 use Rattle.board_reach.specs.declared.seen.Seen.{Seen}
+use Rattle.irq_bits.specs.declared.limits.TheConstants.{MAX_CPUS}
 
 -- the board of these parts; what it has answered plays no role
 abbrev pub board_seen : Seen → Board
@@ -53,7 +54,7 @@ routing_seen s = routing_of_registry (registry_of s.registry.now) s.shape.now.ti
 -- the parts are those of a board: registrations name counters and GSIs that there are, triggers differ, pins are high where
 -- they are held, and no local APIC is missing
 pub record SeenFits (s : Seen) : Type 0 where
-  pub cpus : s.shape.now.cpus ≤ 64
+  pub cpus : s.shape.now.cpus ≤ MAX_CPUS
   pub tick : s.shape.now.tick < 4096
   pub counted : length s.counters.now ≡ s.shape.now.counters
   pub registrations : RegistrationsFit s.shape.now.counters (registry_of s.registry.now)
@@ -66,7 +67,7 @@ pub record SeenFits (s : Seen) : Type 0 where
 
 -- the parts in hand are those of a board of that shape, and none is missing
 pub record PartsFit (shape : Shape) (p : parts.Parts) : Type 0 where
-  pub cpus : shape.cpus ≤ 64
+  pub cpus : shape.cpus ≤ MAX_CPUS
   pub tick : shape.tick < 4096
   pub whole : IsWhole shape (parts_of p)
   pub counted : IfSome p.counters (λ counts. length counts ≡ shape.counters)

@@ -16,13 +16,11 @@ ghost use Rattle.board_reach.specs.Seen.{board_seen, routing_seen, SeenFits};
 
 use crate::seen::Seen;
 use board_raise::IoPart;
+use dest_match::BROADCAST;
 use ioapic_82093aa::{Ioapic, Raise};
 use irq_base::{Message, Mode, MsiWord, Part, Source, Targets};
 use lapic::Shorthand;
 use msi_decode::decode;
-
-// The destination of all processors.
-const BROADCAST: u32 = 0xff;
 
 // Whether it is the registry.
 pub(crate) fn is_registry(part: Part) -> bool

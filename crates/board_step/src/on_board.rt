@@ -6,7 +6,7 @@ ghost use Rattle.board_step.specs.Applied.{is_reached, IsAskedOf};
 use crate::board::Board;
 use irq_base::{Call, Caller, Done, Events, Face, Spent, Stops};
 
-/// One caller's way to a board on one thread, which it borrows: a device below 64 or a processor of the board.
+/// One caller's way to a board on one thread, which it borrows: a device below `MAX_DEVICES` or a processor of the board.
 ///
 /// It keeps how often a limit of the board barred a call, and the limit of the last such call, which is reached.
 #[derive(Drop)]

@@ -11,6 +11,7 @@ use board_raise::{BoardRig, IoPart, LapicRow, Parts, PicPart, RegistryPart, Word
 use event_counter::Counters;
 use ioevent_set::IoEvents;
 use irq_base::{NoMemory, Shape};
+use irq_bits::MAX_CPUS;
 use irqfd_set::Irqfds;
 use lapic::Lapic;
 use route_table::Table;
@@ -22,7 +23,7 @@ pub(crate) fn is_in_limits(shape: &Shape) -> bool
     ensures { IsTrue result ↔ InLimits shape.now }
 {
     1 <= shape.cpus
-        && shape.cpus <= 64
+        && shape.cpus <= MAX_CPUS
         && shape.counters <= 256
         && shape.tick < 4096
         && 1 <= shape.calls
@@ -48,7 +49,7 @@ fn registry(alloc: Global) -> Result<RegistryPart, NoMemory>
 
 // A local APIC at power-on for each processor.
 fn lapics(alloc: Global, cpus: u16) -> Result<LapicRow, NoMemory>
-    requires { cpus ≤ 64 }
+    requires { cpus ≤ MAX_CPUS }
     ensures { IfOk result (λ row. row ≡ opening_row cpus 0) }
 {
     let mut row = LapicRow::empty(alloc, cpus)?;

@@ -26,6 +26,7 @@ use Rattle.part_board.specs.declared.live.LiveBoard.{LiveBoard}
 use Rattle.part_board.specs.declared.pass.Pass.{Pass}
 use Rattle.part_board.specs.Seen.{pass_seen, desk_view, has_made, entries_by, IsDeskOf, IsNewPass}
 use Rattle.live_runs.specs.Made.{IsFresh, callers_of, HasMadeJust}
+use Rattle.irq_base.specs.declared.limits.TheConstants.{MAX_DEVICES}
 
 -- ---- actors are there
 
@@ -34,7 +35,7 @@ first_of_both true b e = refl
 first_of_both false b e = absurd (true≢false (sym e))
 
 allowed_there : (who : Caller) (call : Call) (shape : Shape) → is_allowed who call shape ≡ true → is_there who shape ≡ true
-allowed_there (Device d) call shape allowed = first_of_both (nat_lt d 64) _ allowed
+allowed_there (Device d) call shape allowed = first_of_both (nat_lt d MAX_DEVICES) _ allowed
 allowed_there (Cpu n) Inta shape allowed = first_of_both (nat_lt n shape.cpus) (nat_eq n 0) allowed
 allowed_there (Cpu n) call shape allowed = allowed
 

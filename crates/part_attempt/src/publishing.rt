@@ -5,6 +5,7 @@ ghost use Rattle.turn_book.specs.Banks.{AreDrafted};
 ghost use Rattle.turn_book.specs.Views.{view_of, slots_of};
 ghost use Rattle.route_bank.specs.Drafting.{ChangesDrafts};
 ghost use Rattle.part_attempt.specs.Attempts.{NamesInRange, words_in_hand};
+ghost use Rattle.board_model.specs.declared.width.TheConstants.{WORDS};
 
 use board_raise::Parts;
 use irq_base::{Call, Reply, Shape};
@@ -34,7 +35,7 @@ pub fn draft(
     publish: bool,
 )
     requires book { pen.old.seat.table_id ≡ book.now.table.shared.table_id }
-    requires width { book.now.width ≡ 4392 }
+    requires width { book.now.width ≡ WORDS }
     requires knows { publish ≡ true → is_some (view_of pen.old.seat).knows ≡ true }
     requires range { IfSome parts.now.registry (NamesInRange shape.now.tick) }
     ensures book { pen.new.seat.table_id ≡ pen.old.seat.table_id }

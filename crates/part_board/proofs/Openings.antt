@@ -14,9 +14,11 @@ use Rattle.part_slots.specs.declared.slot.Slot.TheVariants as slots
 use Rattle.part_slots.specs.Slots.{slots_of}
 use Rattle.part_copies.specs.Gathering.{slots_in}
 use Rattle.part_copies.proofs.Boards.{slots_are}
+use Rattle.board_model.specs.declared.width.TheConstants.{WORDS}
+use Rattle.part_slots.specs.declared.numbers.TheConstants.{FIXED_PARTS}
 
--- the board at power-on publishes 4,392 words
-pub words_many : (shape : Shape) → length (words (opening shape)) ≡ 4392
+-- the board at power-on publishes WORDS words
+pub words_many : (shape : Shape) → length (words (opening shape)) ≡ WORDS
 words_many shape = publishes_as_many opening_registry shape.tick
 
 -- there is a place for each processor
@@ -32,7 +34,7 @@ pub opening_slots : (shape : Shape) (p : Parts) → parts_of p ≡ all_parts (op
 opening_slots shape p is pins = slots_are (opening shape) p is pins
 
 -- as many turns as processors, and five
-pub turns_many : (shape : Shape) → length (slots_of (opening shape)) ≡ shape.cpus + 5
+pub turns_many : (shape : Shape) → length (slots_of (opening shape)) ≡ shape.cpus + FIXED_PARTS
 turns_many shape = omega (arith, many (opening shape).lapics, apics_many shape.cpus)
   where
     many : (row : List LocalApic) → length (map (λ a. slots.Lapic a) row) ≡ length row

@@ -4,16 +4,18 @@ use Rattle.std.specs.FinSet as set
 use Rattle.irq_base.specs.declared.call.Caller.{Caller}
 use Rattle.irq_base.specs.declared.call.Caller.TheVariants.{Device, Cpu}
 use Rattle.part_board.specs.declared.callers.Callers.{Callers}
+use Rattle.irq_bits.specs.declared.limits.TheConstants.{MAX_CPUS}
+use Rattle.irq_base.specs.declared.limits.TheConstants.{MAX_DEVICES}
 
 -- whether the caller is in the set
 abbrev pub has_caller : Callers → Caller → Bool
 has_caller callers (Cpu n) = set.contains callers.cpus n
 has_caller callers (Device d) = set.contains callers.devices d
 
--- numbers below 64
+-- numbers below the limits
 abbrev pub is_small : Caller → Bool
-is_small (Cpu n) = nat_lt n 64
-is_small (Device d) = nat_lt d 64
+is_small (Cpu n) = nat_lt n MAX_CPUS
+is_small (Device d) = nat_lt d MAX_DEVICES
 
 -- processors come before devices, and lesser numbers before greater ones
 abbrev pub is_before : Caller → Caller → Bool

@@ -12,6 +12,6 @@ use Rattle.part_board.specs.Callers.{has_caller}
 abbrev pub MadeAre : Callers → List ℕ → Type 0
 MadeAre callers made = (c : Caller) → is_in (caller_number c) made ≡ has_caller callers c
 
--- each of them is a device below 64 or a processor of the board
+-- each of them is a device below MAX_DEVICES or a processor of the board
 abbrev pub AreThere : Shape → List ℕ → Type 0
 AreThere shape made = (k : ℕ) → is_in k made ≡ true → is_there (caller_at k) shape ≡ true

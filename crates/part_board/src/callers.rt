@@ -7,7 +7,7 @@ ghost use Rattle.part_board.specs.Callers.{has_caller, is_small, IsFirst};
 use irq_base::Caller;
 use irq_bits::CpuSet;
 
-/// A set of devices below 64 and processors below 64.
+/// A set of devices below `MAX_DEVICES` and processors below `MAX_CPUS`.
 #[derive(Drop)]
 pub struct Callers {
     pub cpus: CpuSet,

@@ -17,7 +17,7 @@ use board_calls::hears_pair;
 use board_step::Due;
 use lapic::Lapic;
 use part_machine::RunningBoard;
-use part_slots::Slot;
+use part_slots::{FIXED_PARTS, Slot};
 use turn_book::{Pen, TurnBook, part_of};
 
 // Places of parts.
@@ -31,7 +31,7 @@ pub(crate) fn turns_of(n: u16) -> Turns
     if n == 0 {
         turns.push(3);
     }
-    turns.push(u32::from(n) + 5);
+    turns.push(u32::from(n) + FIXED_PARTS);
     turns
 }
 
@@ -93,14 +93,14 @@ fn given_in_hand(
     output: bool,
 ) -> Due
     requires book { pen.old.seat.table_id ≡ book.now.table.shared.table_id }
-    requires held { is_some (held_at (n + 5) (view_of pen.old.seat).held) ≡ true }
+    requires held { is_some (held_at (n + FIXED_PARTS) (view_of pen.old.seat).held) ≡ true }
     requires home { AreHome (view_of pen.old.seat).held (slots_of pen.old.seat) }
     ensures book { pen.new.seat.table_id ≡ pen.old.seat.table_id }
     ensures home { AreHome (view_of pen.new.seat).held (slots_of pen.new.seat) }
     ensures view { view_of pen.new.seat ≡ view_of pen.old.seat }
-    ensures due { option_map (due_in_slot n output) (held_at (n + 5) (view_of pen.old.seat).held) ≡ Some result }
+    ensures due { option_map (due_in_slot n output) (held_at (n + FIXED_PARTS) (view_of pen.old.seat).held) ≡ Some result }
 {
-    let slot = part_of(pen, book, u32::from(n) + 5);
+    let slot = part_of(pen, book, u32::from(n) + FIXED_PARTS);
     due_of(slot, n, output)
 }
 

@@ -20,7 +20,7 @@ use part_slots::caller_number;
 use std::alloc::Global;
 
 impl Desk {
-    /// The pass of a caller, which is a device below 64 or a processor of the board.
+    /// The pass of a caller, which is a device below `MAX_DEVICES` or a processor of the board.
     ///
     /// `Taken` comes exactly where the pass of that caller was made before. After a refusal the desk is unchanged. It takes all
     /// memory that the calls of the pass will ever need.

@@ -1,6 +1,8 @@
 //! A board that many threads call.
 ghost use Rattle.std.specs.Prelude.{◌≡◌, ◌+◌, length};
 ghost use Rattle.board_raise.specs.Fit.{InLimits};
+ghost use Rattle.board_model.specs.declared.width.TheConstants.{WORDS};
+ghost use Rattle.part_slots.specs.declared.numbers.TheConstants.{FIXED_PARTS};
 
 use board_raise::{LapicRow, Words};
 use irq_base::Shape;
@@ -17,8 +19,8 @@ pub struct LiveBoard {
     pub(crate) row: LapicRow,
     pub(crate) words: Words,
     pub ghost limits: { InLimits shape },
-    pub ghost turns: { book.table.shared.table_id.slots ≡ shape.cpus + 5 },
-    pub ghost width: { book.width ≡ 4392 },
+    pub ghost turns: { book.table.shared.table_id.slots ≡ shape.cpus + FIXED_PARTS },
+    pub ghost width: { book.width ≡ WORDS },
     pub ghost room: { length row ≡ shape.cpus },
 }
 

@@ -11,6 +11,8 @@ ghost use Rattle.turn_book.specs.Views.{view_of, first_view};
 ghost use Rattle.part_slots.specs.Slots.{slots_of};
 ghost use Rattle.part_board.specs.Seen.{IsDeskOf, desk_view, desk_seen, has_made};
 ghost use Rattle.part_copies.specs.Gathering.{listed, registry_slot, counters_slot, tick_slot, pic_slot, ioapic_slot, apic_slot, apic_slots, five_slots, slots_in};
+ghost use Rattle.board_model.specs.declared.width.TheConstants.{WORDS};
+ghost use Rattle.part_slots.specs.declared.numbers.TheConstants.{FIXED_PARTS};
 
 use crate::callers::Callers;
 use crate::desk::Desk;
@@ -166,8 +168,8 @@ fn begin(
     requires parts { parts.items ≡ slots_of (opening shape.now) }
     requires words { words.items ≡ words_of_board (opening shape.now) }
     ensures book { IfOk result (λ made. made.1.seat.table_id ≡ made.0.table.shared.table_id) }
-    ensures turns { IfOk result (λ made. made.0.table.shared.table_id.slots ≡ shape.now.cpus + 5) }
-    ensures width { IfOk result (λ made. made.0.width ≡ 4392) }
+    ensures turns { IfOk result (λ made. made.0.table.shared.table_id.slots ≡ shape.now.cpus + FIXED_PARTS) }
+    ensures width { IfOk result (λ made. made.0.width ≡ WORDS) }
     ensures pen { IfOk result (λ made. view_of made.1.seat ≡ first_view (opening shape.now)) }
 {
     match TurnBook::<RunningBoard>::make(alloc, parts, words) {

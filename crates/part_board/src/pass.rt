@@ -33,7 +33,7 @@ pub struct Pass {
 }
 
 impl Pass {
-    /// Whose pass it is: a device below 64 or a processor of the board.
+    /// Whose pass it is: a device below `MAX_DEVICES` or a processor of the board.
     pub fn caller(&self) -> Caller
         ensures who { result ≡ self.now.caller }
         ensures there { is_there result self.now.shape ≡ true }

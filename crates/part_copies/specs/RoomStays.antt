@@ -7,6 +7,7 @@ use Rattle.lapic.specs.Registers.{LocalApic}
 use Rattle.part_slots.specs.declared.slot.Slot.{Slot}
 use Rattle.part_slots.specs.declared.slot.Slot.TheVariants as slots
 use Rattle.part_copies.specs.Copied.{IsLong, RoomFor, with_copy}
+use Rattle.part_slots.specs.declared.numbers.TheConstants.{FIXED_PARTS}
 
 length-set : (row : Row) (n : ℕ) (place : Option LocalApic) → length (slice_set row n place) ≡ length row
 length-set [] n place = refl
@@ -23,7 +24,7 @@ row_stays (slots.Counters kept) p c = refl
 row_stays (slots.Tick kept) p c = refl
 row_stays (slots.Pic kept) p c = refl
 row_stays (slots.Ioapic kept) p c = refl
-row_stays (slots.Lapic kept) p c = length-set c.lapics (p - 5) (Some kept)
+row_stays (slots.Lapic kept) p c = length-set c.lapics (p - FIXED_PARTS) (Some kept)
 
 pub room_stays : (p q : ℕ) (x y : Slot) (c : Parts) → RoomFor p x c → RoomFor q y c → RoomFor q y (with_copy p x c)
 room_stays p q (slots.Registry home) (slots.Registry other) c here there = refl
@@ -41,4 +42,4 @@ room_stays p q (slots.Lapic kept) (slots.Counters other) c here there = there
 room_stays p q x (slots.Tick other) c here there = tt
 room_stays p q x (slots.Pic other) c here there = tt
 room_stays p q x (slots.Ioapic other) c here there = tt
-room_stays p q x (slots.Lapic other) c here (low, few) = (subst (λ n. q - 5 < n) (sym (row_stays x p c)) low, few)
+room_stays p q x (slots.Lapic other) c here (low, few) = (subst (λ n. q - FIXED_PARTS < n) (sym (row_stays x p c)) low, few)

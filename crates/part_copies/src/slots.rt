@@ -6,7 +6,7 @@ use crate::row::{copy_apic, write_apic};
 use board_raise::{IoPart, Parts, PicPart, RegistryPart};
 use event_counter::Counters;
 use ioapic_82093aa::Ioapic;
-use part_slots::Slot;
+use part_slots::{FIXED_PARTS, Slot};
 use source_levels::Levels;
 use tick_reinject::TickState;
 
@@ -76,7 +76,7 @@ pub fn copy_slot(parts: &mut Parts, part: u32, slot: &Slot)
         Slot::Tick(kept) => parts.tick = Some(copy_of_tick(kept)),
         Slot::Pic(kept) => parts.pic = Some(copy_of_pic(kept)),
         Slot::Ioapic(kept) => parts.ioapic = Some(copy_of_ioapic(kept)),
-        Slot::Lapic(kept) => copy_apic(&mut parts.lapics, part.saturating_sub(5), kept),
+        Slot::Lapic(kept) => copy_apic(&mut parts.lapics, part.saturating_sub(FIXED_PARTS), kept),
     }
 }
 
@@ -113,6 +113,6 @@ pub fn write_slot(parts: &Parts, part: u32, slot: &mut Slot)
                 kept.levels.copy_from(&copy.levels);
             }
         }
-        Slot::Lapic(kept) => write_apic(&parts.lapics, part.saturating_sub(5), kept),
+        Slot::Lapic(kept) => write_apic(&parts.lapics, part.saturating_sub(FIXED_PARTS), kept),
     }
 }

@@ -39,6 +39,7 @@ use Rattle.part_attempt.specs.Attempts.{NamesInRange, words_in_hand}
 use Rattle.part_attempt.proofs.Standing.{some_is, stands, right_is}
 use Rattle.part_reach.specs.Entered.{IsMadeOn}
 use Rattle.part_reach.proofs.Home.{written_home, fits_home}
+use Rattle.irq_bits.specs.declared.limits.TheConstants.{MAX_CPUS}
 
 module _ (shape : Shape) (v : Seen) (begins : v.begin ≡ Some (opening shape)) (legal : IsLegal Opens IsStep v) (e : Entry) (places : List ℕ) (q : Parts) (made : IsMadeOn v e places q) where
   before_is : legal.1 ≡ made.before
@@ -106,7 +107,7 @@ module _ (shape : Shape) (v : Seen) (begins : v.begin ≡ Some (opening shape)) 
     pub all_fit : (k : ℕ) (x : Slot) → held_at k v.held ≡ Some x → FitsOver k q x
     all_fit k x held = fits_home made.before made.after q made.agrees made.pins frame.shape
         (before_sound.counts.number ∙ ap (λ (s : Shape). s.counters) (sym frame.shape) ∙ sym after_sound.counts.number)
-        made.row (subst (λ n. n ≤ 64) (sym before_sound.lapics.places) before_sound.limits.cpus) k x (slot_is k x held)
+        made.row (subst (λ n. n ≤ MAX_CPUS) (sym before_sound.lapics.places) before_sound.limits.cpus) k x (slot_is k x held)
 
     -- what is written is what the history then has
     pub all_home : (w : Seen) (legal' : IsLegal Opens IsStep w) → w.begin ≡ Some (opening shape) → HoldsRight slots_of w → HoldsJust places v.held → HoldsJust places w.held

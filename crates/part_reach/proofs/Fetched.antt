@@ -35,6 +35,8 @@ use Rattle.part_attempt.proofs.Standing.{stands}
 use Rattle.part_reach.specs.Turns.{IsReachedAfter, IsReachedBetween}
 use Rattle.part_reach.specs.UnderWay.{HasLooked, HoldsPlaces, IsUnderWay, LooksAgain, CameTo}
 use Rattle.part_reach.proofs.Ways.{reached_before, same_place, legal_same, busy}
+use Rattle.board_model.specs.declared.width.TheConstants.{WORDS}
+use Rattle.part_attempt.specs.declared.places.TheConstants.{MAX_PLACES}
 
 -- ---- where a reached part stands
 
@@ -152,23 +154,23 @@ publications_end shape v begins legal =
     omega (arith, most, limit, count)
 
 -- so many turns and words can be wanted still: t turns, g publications to come, b words
-left_less : (t t' g g' b b' : ℕ) → g ≤ g' → g' ≤ 2 ^ 20 → b' ≤ 4392 → ((g ≡ g') → (t' + b' < t + b)) → t' ≤ t → t' + (2 ^ 20 - g') * 4393 + b' < t + (2 ^ 20 - g) * 4393 + b
+left_less : (t t' g g' b b' : ℕ) → g ≤ g' → g' ≤ 2 ^ 20 → b' ≤ WORDS → ((g ≡ g') → (t' + b' < t + b)) → t' ≤ t → t' + (2 ^ 20 - g') * (WORDS + 1) + b' < t + (2 ^ 20 - g) * (WORDS + 1) + b
 left_less t t' g g' b b' rise most few same turns = elim (leb_tells g' g) [
   | inl h ↦ (let low = h.1 in let is : g ≡ g' = omega (arith, low, rise) in let less = same is in omega (arith, is, less))
   | inr h ↦ (let high = h.1 in omega (arith, high, most, few, turns))
 ]
 
 -- a word more was read, or a turn more won
-pub fewer_left : (had next : Front) (n n' b b' : ℕ) → had.generation ≤ next.generation → next.generation ≤ 2 ^ 20 → b' ≤ 4392 → n' ≤ 69 → ((had.generation ≡ next.generation) → b' + n < b + n') → n ≤ n'
-    → (69 - n') + (2 ^ 20 - next.generation) * 4393 + b' < (69 - n) + (2 ^ 20 - had.generation) * 4393 + b
-fewer_left had next n n' b b' rise most few turns same more = left_less (69 - n) (69 - n') had.generation next.generation b b' rise most few (λ is. (let less = same is in omega (arith, less, turns, more))) (omega (arith, turns, more))
+pub fewer_left : (had next : Front) (n n' b b' : ℕ) → had.generation ≤ next.generation → next.generation ≤ 2 ^ 20 → b' ≤ WORDS → n' ≤ MAX_PLACES → ((had.generation ≡ next.generation) → b' + n < b + n') → n ≤ n'
+    → (MAX_PLACES - n') + (2 ^ 20 - next.generation) * (WORDS + 1) + b' < (MAX_PLACES - n) + (2 ^ 20 - had.generation) * (WORDS + 1) + b
+fewer_left had next n n' b b' rise most few turns same more = left_less (MAX_PLACES - n) (MAX_PLACES - n') had.generation next.generation b b' rise most few (λ is. (let less = same is in omega (arith, less, turns, more))) (omega (arith, turns, more))
 
 -- ---- what is wanted, by what it was
 
 module _ (shape : Shape) (caller : Caller) (call : Call) (v w : Seen) (had : Front) (places after : List ℕ) (old new : List (Option Reading)) (looked : HasLooked shape caller v had) where
   -- a word was read
-  pub read_fewer : (next : Front) → LooksAgain v w [] next → length places ≤ 69 → ((g : ℕ) → blanks_under g new ≤ 4392) → blanks_under had.generation new + 1 ≡ blanks_under had.generation old
-      → (69 - length places) + (2 ^ 20 - next.generation) * 4393 + blanks_under next.generation new < (69 - length places) + (2 ^ 20 - had.generation) * 4393 + blanks_under had.generation old
+  pub read_fewer : (next : Front) → LooksAgain v w [] next → length places ≤ MAX_PLACES → ((g : ℕ) → blanks_under g new ≤ WORDS) → blanks_under had.generation new + 1 ≡ blanks_under had.generation old
+      → (MAX_PLACES - length places) + (2 ^ 20 - next.generation) * (WORDS + 1) + blanks_under next.generation new < (MAX_PLACES - length places) + (2 ^ 20 - had.generation) * (WORDS + 1) + blanks_under had.generation old
   read_fewer next again most few one = fewer_left had next (length places) (length places) (blanks_under had.generation old) (blanks_under next.generation new)
       (rises next [] again) (ends next [] again) (few next.generation) most
       (λ same. (let now : blanks_under next.generation new ≡ blanks_under had.generation new = ap (λ g. blanks_under g new) (sym same) in omega (arith, now, one))) (omega arith)
@@ -180,8 +182,8 @@ module _ (shape : Shape) (caller : Caller) (call : Call) (v w : Seen) (had : Fro
       ends next more again = let most = publications_end shape w (again.place.0 ∙ looked.begins) again.legal in let b = again.published in omega (arith, most, b)
 
   -- a turn was won
-  pub won_fewer : (r : Result Front Part) (turn : ℕ) → IfOk r (LooksAgain v w (turn ∷ [])) → IfOk r (λ next. after ≡ places ++ turn ∷ []) → length after ≤ 69 → IfOk r (λ next. (g : ℕ) → blanks_under g new ≤ 4392) → new ≡ old
-      → IfOk r (λ next. (69 - length after) + (2 ^ 20 - next.generation) * 4393 + blanks_under next.generation new < (69 - length places) + (2 ^ 20 - had.generation) * 4393 + blanks_under had.generation old)
+  pub won_fewer : (r : Result Front Part) (turn : ℕ) → IfOk r (LooksAgain v w (turn ∷ [])) → IfOk r (λ next. after ≡ places ++ turn ∷ []) → length after ≤ MAX_PLACES → IfOk r (λ next. (g : ℕ) → blanks_under g new ≤ WORDS) → new ≡ old
+      → IfOk r (λ next. (MAX_PLACES - length after) + (2 ^ 20 - next.generation) * (WORDS + 1) + blanks_under next.generation new < (MAX_PLACES - length places) + (2 ^ 20 - had.generation) * (WORDS + 1) + blanks_under had.generation old)
   won_fewer (Err p) turn again won most few same = tt
   won_fewer (Ok next) turn again won most few same = fewer_left had next (length places) (length after) (blanks_under had.generation old) (blanks_under next.generation new)
       rises ends (few next.generation) most

@@ -27,6 +27,7 @@ use Rattle.part_slots.proofs.Commits.{kept_parts_are_slots}
 use Rattle.part_copies.specs.Copied.{or_kept, written_by, FitsOver}
 use Rattle.part_copies.proofs.Copied.{apic_at}
 use Rattle.part_reach.proofs.Copied.{some_is, five_less}
+use Rattle.irq_bits.specs.declared.limits.TheConstants.{MAX_CPUS}
 
 -- the board before, that after, and the parts that are left in hand
 module _ (b c : Board) (q : Parts) (agrees : Agrees (parts_of q) c) (pins : PinsFit (chips_of q)) (shape : c.shape ≡ b.shape) where
@@ -72,7 +73,7 @@ module _ (b c : Board) (q : Parts) (agrees : Agrees (parts_of q) c) (pins : Pins
   long_counters (Some v) long agree = long ∙ ap (λ x. length x) (some_is c.counters v (agree v refl))
 
   -- each part in hand can be written over the part of the board before
-  pub fits_home : length b.counters ≡ length c.counters → length q.lapics ≡ length b.lapics → length b.lapics ≤ 64 → (k : ℕ) (x : Slot) → slice_get (slots_of b) k ≡ Some x → FitsOver k q x
+  pub fits_home : length b.counters ≡ length c.counters → length q.lapics ≡ length b.lapics → length b.lapics ≤ MAX_CPUS → (k : ℕ) (x : Slot) → slice_get (slots_of b) k ≡ Some x → FitsOver k q x
   fits_home long row few zero x is = subst (FitsOver 0 q) (some_is (registry_slot b) x is) tt
   fits_home long row few (suc zero) x is = subst (FitsOver 1 q) (some_is (slots.Counters b.counters) x is) (long_counters q.counters long (agrees Counters))
   fits_home long row few (suc (suc zero)) x is = subst (FitsOver 2 q) (some_is (slots.Tick b.tick) x is) tt

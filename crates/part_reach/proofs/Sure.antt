@@ -26,6 +26,7 @@ use Rattle.board_calls.specs.Refusals.{range_reasons, is_ioapic_address, is_lapi
 use Rattle.board_step.specs.Reach.{of_call, reach}
 use Rattle.part_reach.specs.Sure.{IsSure, named_alone, sure_part}
 use Rattle.part_reach.proofs.Copied.{number_itself}
+use Rattle.irq_bits.specs.declared.limits.TheConstants.{MAX_CPUS}
 
 -- ---- messages
 
@@ -34,7 +35,7 @@ abbrev of_tests : Message → ℕ → Part → Bool → Bool → Bool → Bool �
 of_tests message cpus q taken logical all low =
     taken && is_of_one (if logical then numbers_below cpus else if all then numbers_below cpus else if low then message.dest ∷ [] else []) q
 
-alone_is_reached : (message : Message) (cpus : ℕ) → cpus ≤ 64 → IfSome (named_alone (Some message) cpus) (λ p. of_message message None cpus p ≡ true)
+alone_is_reached : (message : Message) (cpus : ℕ) → cpus ≤ MAX_CPUS → IfSome (named_alone (Some message) cpus) (λ p. of_message message None cpus p ≡ true)
 alone_is_reached message cpus few = by (is_taken message.mode) refl message.logical refl (nat_lt message.dest cpus) refl
   where
     by : (taken : Bool) → is_taken message.mode ≡ taken → (logical : Bool) → message.logical ≡ logical → (low : Bool) → nat_lt message.dest cpus ≡ low
@@ -47,7 +48,7 @@ alone_is_reached message cpus few = by (is_taken message.mode) refl message.logi
     by true taken true logical l low = tt
     by false taken g logical l low = tt
 
-message_is_reached : (address payload cpus : ℕ) → cpus ≤ 64 → IfSome (named_alone (message_of address payload) cpus) (λ p. of_message (message_in address payload) None cpus p ≡ true)
+message_is_reached : (address payload cpus : ℕ) → cpus ≤ MAX_CPUS → IfSome (named_alone (message_of address payload) cpus) (λ p. of_message (message_in address payload) None cpus p ≡ true)
 message_is_reached address payload cpus few = by (bits_of address 63 20 == 0xfee)
   where
     by : (good : Bool) → IfSome (named_alone (if good then Some (message_in address payload) else None) cpus) (λ p. of_message (message_in address payload) None cpus p ≡ true)
@@ -67,7 +68,7 @@ itself_or n rest = ap (λ t. t || rest) (number_itself n)
 abbrev row : Board → ℕ → Call → Part → Bool
 row b n call q = of_call of_acknowledge_each (routing_of_registry b.registry b.shape.tick) b.shape b n call q
 
-in_table : (b : Board) (n : ℕ) (call : Call) → b.shape.cpus ≤ 64 → IfSome (sure_part b.shape n call) (λ p. row b n call p ≡ true)
+in_table : (b : Board) (n : ℕ) (call : Call) → b.shape.cpus ≤ MAX_CPUS → IfSome (sure_part b.shape n call) (λ p. row b n call p ≡ true)
 in_table b n (calls.Line gsi line high) few = tt
 in_table b n (calls.Msi address payload) few = message_is_reached address payload b.shape.cpus few
 in_table b n (calls.Write counter count) few = tt
@@ -93,7 +94,7 @@ in_table b n calls.Eoi few = itself_or n _
 
 -- ---- every board
 
-module _ (shape : Shape) (caller : Caller) (call : Call) (few : shape.cpus ≤ 64) (range : first_of (range_reasons shape call) ≡ None) where
+module _ (shape : Shape) (caller : Caller) (call : Call) (few : shape.cpus ≤ MAX_CPUS) (range : first_of (range_reasons shape call) ≡ None) where
   -- what the table tells of a part on one board
   on_board : (b : Board) → b.shape ≡ shape → (o : Option Part) → IfSome o (λ p. row b (number_of caller) call p ≡ true) → IfSome o (λ p. reach b caller call p ≡ true)
   on_board b same None told = tt
@@ -108,4 +109,4 @@ module _ (shape : Shape) (caller : Caller) (call : Call) (few : shape.cpus ≤ 6
   pub sure_is_reached : (o : Option Part) → o ≡ sure_part shape (number_of caller) call → IfSome o (IsSure shape caller call)
   sure_is_reached o is = on_each o (λ b same. on_board b same o
       (subst (λ x. IfSome x (λ p. row b (number_of caller) call p ≡ true)) (ap (λ s. sure_part s (number_of caller) call) same ∙ sym is)
-      (in_table b (number_of caller) call (subst (λ (s : Shape). s.cpus ≤ 64) (sym same) few))))
+      (in_table b (number_of caller) call (subst (λ (s : Shape). s.cpus ≤ MAX_CPUS) (sym same) few))))

@@ -12,6 +12,7 @@ use Rattle.turn_book.specs.Hands.{held_at}
 use Rattle.part_slots.specs.declared.slot.Slot.{Slot}
 use Rattle.part_slots.specs.declared.slot.Slot.TheVariants as slots
 use Rattle.part_slots.specs.Commits.{Seen}
+use Rattle.part_slots.specs.declared.numbers.TheConstants.{FIXED_PARTS}
 
 -- of an acknowledge the pair, where no NMI is pending and LINT0 lets the pair through; of an end of interrupt the I/O APIC, where
 -- there is an interrupt to end
@@ -28,5 +29,5 @@ beside _ n call = None
 -- the part is reached beside the local APIC of processor n, by the slot of that which the seat holds
 pub record IsBeside (v : Seen) (n : ℕ) (call : Call) (part : Part) : Type 0 where
   pub slot : Slot
-  pub held : held_at (n + 5) v.held ≡ Some slot
+  pub held : held_at (n + FIXED_PARTS) v.held ≡ Some slot
   pub told : beside slot n call ≡ Some part

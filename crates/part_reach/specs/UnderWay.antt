@@ -21,6 +21,9 @@ use Rattle.part_rig.specs.declared.known.Known.{Known}
 use Rattle.part_rig.specs.Readings.{blanks_under}
 use Rattle.part_attempt.specs.Attempts.{Answer, EntersBehind, IsBarred, GaveWay, IfEntered, IfBarred, IfGaveWay, OnNoEntry, OnAnswer, turns_found}
 use Rattle.part_reach.specs.Turns.{IsReachedBetween, AddsReached, FindsReached, seen_before_own}
+use Rattle.part_attempt.specs.declared.places.TheConstants.{MAX_PLACES}
+use Rattle.board_model.specs.declared.width.TheConstants.{WORDS}
+use Rattle.part_slots.specs.declared.numbers.TheConstants.{FIXED_PARTS}
 
 -- the seat has looked at this front and knows the board there
 pub record HasLooked (shape : Shape) (caller : Caller) (v : Seen) (had : Front) : Type 0 where
@@ -35,7 +38,7 @@ pub record HasLooked (shape : Shape) (caller : Caller) (v : Seen) (had : Front) 
 
 -- it holds just the parts of these places, each of a board of that shape
 pub record HoldsPlaces (shape : Shape) (v : Seen) (places : List ℕ) : Type 0 where
-  pub below : AllBelow (5 + shape.cpus) places
+  pub below : AllBelow (FIXED_PARTS + shape.cpus) places
   pub apart : AreApart places
   pub just : HoldsJust places v.held
 
@@ -70,7 +73,7 @@ pub record LooksAgain (v w : Seen) (more : List ℕ) (next : Front) : Type 0 whe
 -- how many words and turns can be wanted still: a word that is read leaves one less, so does a turn that is won, and a publication
 -- of another makes each word unread
 abbrev pub wants_left : Front → List ℕ → Known → ℕ
-wants_left had places known = (69 - length places) + (2 ^ 20 - had.generation) * 4393 + blanks_under had.generation known.places.items
+wants_left had places known = (MAX_PLACES - length places) + (2 ^ 20 - had.generation) * (WORDS + 1) + blanks_under had.generation known.places.items
 
 -- what an attempt came to
 pub record CameTo (shape : Shape) (caller : Caller) (call : Call) (u w : Seen) (answer : Answer) (events : List Event) : Type 0 where

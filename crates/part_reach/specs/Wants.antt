@@ -14,10 +14,11 @@ use Rattle.part_rig.specs.Readings.{word_under, read_at}
 use Rattle.part_reach.specs.declared.want.Want.{Want}
 use Rattle.part_reach.specs.declared.want.Want.TheVariants as wants
 use Rattle.part_reach.specs.Turns.{IsReachedAfter}
+use Rattle.board_model.specs.declared.width.TheConstants.{WORDS}
 
 -- no word of that index was read under the generation of the last look
 pub record IsUnread (known : Known) (index : ℕ) : Type 0 where
-  pub low : index < 4392
+  pub low : index < WORDS
   pub blank : word_under known.looked (read_at known.places.items index) ≡ None
 
 -- the run of a call on these parts, by these words, lacked what is wanted

@@ -18,6 +18,8 @@ ghost use Rattle.part_rig.specs.Rooms.{IsRoomFor, AreAt};
 ghost use Rattle.part_attempt.specs.declared.not_now.NotNow.TheVariants as reasons;
 ghost use Rattle.part_reach.specs.Wants.{IsWanted, IsUnread};
 ghost use Rattle.part_reach.specs.UnderWay.{HasLooked, HoldsPlaces, IsUnderWay, LooksAgain, wants_left, CameTo};
+ghost use Rattle.board_model.specs.declared.width.TheConstants.{WORDS};
+ghost use Rattle.part_slots.specs.declared.numbers.TheConstants.{FIXED_PARTS};
 
 use crate::beginning::set_out;
 use crate::fetching::fetch;
@@ -40,8 +42,8 @@ fn until_answered(
     events: &mut Events,
 ) -> Result<Result<Done, Spent>, NotNow>
     requires book { pen.old.seat.table_id ≡ book.now.table.shared.table_id }
-    requires turns { book.now.table.shared.table_id.slots ≡ shape.now.cpus + 5 }
-    requires width { book.now.width ≡ 4392 }
+    requires turns { book.now.table.shared.table_id.slots ≡ shape.now.cpus + FIXED_PARTS }
+    requires width { book.now.width ≡ WORDS }
     requires limits { InLimits shape.now }
     requires allowed { is_allowed caller call.now shape.now ≡ true }
     requires bare { (view_of pen.old.seat).held ≡ [] }
@@ -109,8 +111,8 @@ pub fn attempt(
     events: &mut Events,
 ) -> Result<Result<Done, Spent>, NotNow>
     requires book { pen.old.seat.table_id ≡ book.now.table.shared.table_id }
-    requires turns { book.now.table.shared.table_id.slots ≡ shape.now.cpus + 5 }
-    requires width { book.now.width ≡ 4392 }
+    requires turns { book.now.table.shared.table_id.slots ≡ shape.now.cpus + FIXED_PARTS }
+    requires width { book.now.width ≡ WORDS }
     requires limits { InLimits shape.now }
     requires allowed { is_allowed caller call.now shape.now ≡ true }
     requires bare { (view_of pen.old.seat).held ≡ [] }

@@ -12,6 +12,8 @@ ghost use Rattle.part_rig.specs.Readings.{AreNoted};
 ghost use Rattle.part_rig.specs.Rooms.{IsRoomFor, AreAt};
 ghost use Rattle.part_attempt.specs.declared.not_now.NotNow.TheVariants as reasons;
 ghost use Rattle.part_reach.specs.UnderWay.{HasLooked, HoldsPlaces, IsUnderWay, CameTo};
+ghost use Rattle.board_model.specs.declared.width.TheConstants.{WORDS};
+ghost use Rattle.part_slots.specs.declared.numbers.TheConstants.{FIXED_PARTS};
 
 use crate::beside::reached_beside;
 use crate::by_table::sure;
@@ -35,7 +37,7 @@ fn begin(
     call: &Call,
 ) -> Result<Front, Part>
     requires book { pen.old.seat.table_id ≡ book.now.table.shared.table_id }
-    requires turns { book.now.table.shared.table_id.slots ≡ shape.now.cpus + 5 }
+    requires turns { book.now.table.shared.table_id.slots ≡ shape.now.cpus + FIXED_PARTS }
     requires limits { InLimits shape.now }
     requires allowed { is_allowed caller call.now shape.now ≡ true }
     requires bare { (view_of pen.old.seat).held ≡ [] }
@@ -85,8 +87,8 @@ pub(crate) fn set_out(
     call: &Call,
 ) -> Result<Front, Part>
     requires book { pen.old.seat.table_id ≡ book.now.table.shared.table_id }
-    requires turns { book.now.table.shared.table_id.slots ≡ shape.now.cpus + 5 }
-    requires width { book.now.width ≡ 4392 }
+    requires turns { book.now.table.shared.table_id.slots ≡ shape.now.cpus + FIXED_PARTS }
+    requires width { book.now.width ≡ WORDS }
     requires limits { InLimits shape.now }
     requires allowed { is_allowed caller call.now shape.now ≡ true }
     requires bare { (view_of pen.old.seat).held ≡ [] }

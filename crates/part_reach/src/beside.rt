@@ -14,7 +14,7 @@ use board_calls::hears_pair;
 use irq_base::{Call, Caller, Part};
 use lapic::Lapic;
 use part_machine::RunningBoard;
-use part_slots::Slot;
+use part_slots::{FIXED_PARTS, Slot};
 use turn_book::{Pen, TurnBook, part_of};
 
 // Whether there is an interrupt to end.
@@ -59,7 +59,7 @@ fn beside_held(
     call: &Call,
 ) -> Option<Part>
     requires book { pen.old.seat.table_id ≡ book.now.table.shared.table_id }
-    requires turn { turn ≡ n + 5 }
+    requires turn { turn ≡ n + FIXED_PARTS }
     requires held { is_some (held_at turn (view_of pen.old.seat).held) ≡ true }
     requires home { AreHome (view_of pen.old.seat).held (slots_of pen.old.seat) }
     ensures book { pen.new.seat.table_id ≡ pen.old.seat.table_id }
@@ -93,7 +93,7 @@ pub(crate) fn reached_beside(
     match places.split_first() {
         None => None,
         Some((turn, rest)) => {
-            if rest.is_empty() && *turn == u32::from(n) + 5 {
+            if rest.is_empty() && *turn == u32::from(n) + FIXED_PARTS {
                 beside_held(book, pen, *turn, n, call)
             } else {
                 None

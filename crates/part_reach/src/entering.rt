@@ -13,6 +13,7 @@ ghost use Rattle.part_slots.specs.Running.{Opens, IsStep, caller_of};
 ghost use Rattle.part_slots.specs.Slots.{slots_of as slots_of_board};
 ghost use Rattle.part_attempt.specs.Entering.{entry_answered};
 ghost use Rattle.part_reach.specs.Entered.{IsMadeOn};
+ghost use Rattle.board_model.specs.declared.width.TheConstants.{WORDS};
 
 use irq_base::{Call, Events, Shape};
 use part_attempt::{Answered, commit_answered, did_publish, draft};
@@ -34,7 +35,7 @@ pub(crate) fn enter(
     events: &Events,
 ) -> Result<u64, Front>
     requires book { pen.old.seat.table_id ≡ book.now.table.shared.table_id }
-    requires width { book.now.width ≡ 4392 }
+    requires width { book.now.width ≡ WORDS }
     requires limits { InLimits shape.now }
     requires apart { AreApart places.now }
     requires just { HoldsJust places.now (view_of pen.old.seat).held }

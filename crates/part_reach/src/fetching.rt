@@ -18,6 +18,10 @@ ghost use Rattle.part_rig.specs.Rooms.{IsRoomFor, AreAt};
 ghost use Rattle.part_attempt.specs.declared.not_now.NotNow.TheVariants as reasons;
 ghost use Rattle.part_reach.specs.Wants.{IsWanted, IsUnread};
 ghost use Rattle.part_reach.specs.UnderWay.{HasLooked, HoldsPlaces, IsUnderWay, LooksAgain, wants_left, CameTo};
+ghost use Rattle.irq_bits.specs.declared.limits.TheConstants.{MAX_CPUS};
+ghost use Rattle.board_model.specs.declared.width.TheConstants.{WORDS};
+ghost use Rattle.part_slots.specs.declared.numbers.TheConstants.{FIXED_PARTS};
+ghost use Rattle.part_attempt.specs.declared.places.TheConstants.{MAX_PLACES};
 
 use crate::want::Want;
 use irq_base::{Call, Caller, Part, Shape};
@@ -36,12 +40,12 @@ fn take_turn(
     part: Part,
 ) -> Took
     requires book { pen.old.seat.table_id ≡ book.now.table.shared.table_id }
-    requires turns { book.now.table.shared.table_id.slots ≡ shape.now.cpus + 5 }
-    requires few { shape.now.cpus ≤ 64 }
+    requires turns { book.now.table.shared.table_id.slots ≡ shape.now.cpus + FIXED_PARTS }
+    requires few { shape.now.cpus ≤ MAX_CPUS }
     requires caller { (view_of pen.old.seat).caller ≢ None }
     requires home { AreHome (view_of pen.old.seat).held (slots_of pen.old.seat) }
     requires holds { HoldsPlaces shape.now (view_of pen.old.seat) places.old.items }
-    requires there { place_of part < 5 + shape.now.cpus }
+    requires there { place_of part < FIXED_PARTS + shape.now.cpus }
     requires free { is_in (place_of part) places.old.items ≡ false }
     ensures book { pen.new.seat.table_id ≡ pen.old.seat.table_id }
     ensures home { AreHome (view_of pen.new.seat).held (slots_of pen.new.seat) }
@@ -80,7 +84,7 @@ pub(crate) fn look(
     ensures published { IfSome (view_of pen.new.seat).now (λ b. words b ≡ list_of room.new.rig.known) }
     ensures under { room.new.rig.known.looked ≡ result.generation }
     ensures settled { room.new.rig.known.settled ≡ true }
-    ensures few { (g : ℕ) → blanks_under g room.new.rig.known.places.items ≤ 4392 }
+    ensures few { (g : ℕ) → blanks_under g room.new.rig.known.places.items ≤ WORDS }
     ensures places { room.new.rig.known.places.items ≡ room.old.rig.known.places.items }
     ensures parts { room.new.rig.parts ≡ room.old.rig.parts }
     ensures room { (any : ShapeOf) → IsRoomFor any room.old → IsRoomFor any room.new }
@@ -99,7 +103,7 @@ fn read_word(
     index: u16,
 ) -> Front
     requires book { pen.old.seat.table_id ≡ book.now.table.shared.table_id }
-    requires width { book.now.width ≡ 4392 }
+    requires width { book.now.width ≡ WORDS }
     requires last_look { IsLastLook had (view_of pen.old.seat) }
     requires unread { IsUnread room.old.rig.known index }
     requires under { room.old.rig.known.looked ≡ had.generation }
@@ -110,7 +114,7 @@ fn read_word(
     ensures published { IfSome (view_of pen.new.seat).now (λ b. words b ≡ list_of room.new.rig.known) }
     ensures under { room.new.rig.known.looked ≡ result.generation }
     ensures settled { room.new.rig.known.settled ≡ true }
-    ensures few { (g : ℕ) → blanks_under g room.new.rig.known.places.items ≤ 4392 }
+    ensures few { (g : ℕ) → blanks_under g room.new.rig.known.places.items ≤ WORDS }
     ensures fewer { blanks_under had.generation room.new.rig.known.places.items + 1 ≡ blanks_under had.generation room.old.rig.known.places.items }
     ensures parts { room.new.rig.parts ≡ room.old.rig.parts }
     ensures room { (any : ShapeOf) → IsRoomFor any room.old → IsRoomFor any room.new }
@@ -131,12 +135,12 @@ pub(crate) fn win_turn(
     part: Part,
 ) -> Result<Front, Part>
     requires book { pen.old.seat.table_id ≡ book.now.table.shared.table_id }
-    requires turns { book.now.table.shared.table_id.slots ≡ shape.now.cpus + 5 }
-    requires few { shape.now.cpus ≤ 64 }
+    requires turns { book.now.table.shared.table_id.slots ≡ shape.now.cpus + FIXED_PARTS }
+    requires few { shape.now.cpus ≤ MAX_CPUS }
     requires caller { (view_of pen.old.seat).caller ≢ None }
     requires home { AreHome (view_of pen.old.seat).held (slots_of pen.old.seat) }
     requires holds { HoldsPlaces shape.now (view_of pen.old.seat) places.old.items }
-    requires there { place_of part < 5 + shape.now.cpus }
+    requires there { place_of part < FIXED_PARTS + shape.now.cpus }
     requires free { is_in (place_of part) places.old.items ≡ false }
     requires noted { AreNoted (view_of pen.old.seat).notes room.old.rig.known.places.items }
     ensures book { pen.new.seat.table_id ≡ pen.old.seat.table_id }
@@ -144,11 +148,11 @@ pub(crate) fn win_turn(
     ensures holds { HoldsPlaces shape.now (view_of pen.new.seat) places.new.items }
     ensures again { IfOk result (LooksAgain (view_of pen.old.seat) (view_of pen.new.seat) (place_of part ∷ [])) }
     ensures won { IfOk result (λ _. places.new.items ≡ places.old.items ++ place_of part ∷ []) }
-    ensures few_places { length places.new.items ≤ 69 }
+    ensures few_places { length places.new.items ≤ MAX_PLACES }
     ensures published { IfOk result (λ _. IfSome (view_of pen.new.seat).now (λ b. words b ≡ list_of room.new.rig.known)) }
     ensures under { IfOk result (λ next. room.new.rig.known.looked ≡ next.generation) }
     ensures settled { IfOk result (λ _. room.new.rig.known.settled ≡ true) }
-    ensures few { IfOk result (λ _. (g : ℕ) → blanks_under g room.new.rig.known.places.items ≤ 4392) }
+    ensures few { IfOk result (λ _. (g : ℕ) → blanks_under g room.new.rig.known.places.items ≤ WORDS) }
     ensures same { room.new.rig.known.places.items ≡ room.old.rig.known.places.items }
     ensures other { IfErr result (λ found. found ≡ part) }
     ensures stays { IfErr result (λ _. places.new.items ≡ places.old.items) }
@@ -180,8 +184,8 @@ pub(crate) fn fetch(
     want: Want,
 ) -> Result<Front, Part>
     requires book { pen.old.seat.table_id ≡ book.now.table.shared.table_id }
-    requires turns { book.now.table.shared.table_id.slots ≡ shape.now.cpus + 5 }
-    requires width { book.now.width ≡ 4392 }
+    requires turns { book.now.table.shared.table_id.slots ≡ shape.now.cpus + FIXED_PARTS }
+    requires width { book.now.width ≡ WORDS }
     requires limits { InLimits shape.now }
     requires allowed { is_allowed caller call.now shape.now ≡ true }
     requires home { AreHome (view_of pen.old.seat).held (slots_of pen.old.seat) }

@@ -22,6 +22,8 @@ ghost use Rattle.part_rig.specs.Rooms.{IsRoomFor, AreAt};
 ghost use Rattle.part_attempt.specs.Attempts.{IsBarred, IsLost, IfEntered, IfBarred, IfGaveWay, OnNoEntry, OnAnswer};
 ghost use Rattle.part_reach.specs.Entered.{IsMadeOn};
 ghost use Rattle.part_reach.specs.Wants.{IsAskedFor, IsWanted};
+ghost use Rattle.board_model.specs.declared.width.TheConstants.{WORDS};
+ghost use Rattle.part_slots.specs.declared.numbers.TheConstants.{FIXED_PARTS};
 
 use crate::copying::copy_parts;
 use crate::entering::enter;
@@ -79,7 +81,7 @@ fn entered(
     events: &mut Events,
 ) -> Result<Result<Done, Spent>, NotNow>
     requires book { pen.old.seat.table_id ≡ book.now.table.shared.table_id }
-    requires width { book.now.width ≡ 4392 }
+    requires width { book.now.width ≡ WORDS }
     requires limits { InLimits shape.now }
     requires apart { AreApart places.now }
     requires just { HoldsJust places.now (view_of pen.old.seat).held }
@@ -137,9 +139,9 @@ pub(crate) fn run(
     events: &mut Events,
 ) -> Result<Result<Result<Done, Spent>, NotNow>, Want>
     requires book { pen.old.seat.table_id ≡ book.now.table.shared.table_id }
-    requires width { book.now.width ≡ 4392 }
+    requires width { book.now.width ≡ WORDS }
     requires limits { InLimits shape.now }
-    requires below { AllBelow (5 + shape.now.cpus) places.now }
+    requires below { AllBelow (FIXED_PARTS + shape.now.cpus) places.now }
     requires apart { AreApart places.now }
     requires just { HoldsJust places.now (view_of pen.old.seat).held }
     requires home { AreHome (view_of pen.old.seat).held (slots_of pen.old.seat) }

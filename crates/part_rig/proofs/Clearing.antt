@@ -16,6 +16,7 @@ use Rattle.part_slots.specs.Slots.{place, part_at}
 use Rattle.part_slots.proofs.Inverse.{place_back}
 use Rattle.part_rig.specs.declared.workroom.Workroom.{Workroom}
 use Rattle.part_rig.specs.Rooms.{AreAt, IsBare, IsRoomFor, nothing, without, cleared, cleared_each}
+use Rattle.part_slots.specs.declared.numbers.TheConstants.{FIXED_PARTS}
 
 -- ---- what is in hand without a part
 
@@ -26,13 +27,13 @@ left_in (a ∷ row) zero (suc k) e = (grind (arith, nat_tests), e)
 left_in (a ∷ row) (suc n) zero e = (grind (arith, nat_tests), e)
 left_in (a ∷ row) (suc n) (suc k) e = let (apart, there) = left_in row n k e in ((let f : nat_eq (suc n) (suc k) ≡ false = grind (arith, nat_tests) in f), there)
 
-shifted : (n k : ℕ) → nat_eq n k ≡ false → nat_eq (n + 5) (k + 5) ≡ false
+shifted : (n k : ℕ) → nat_eq n k ≡ false → nat_eq (n + FIXED_PARTS) (k + FIXED_PARTS) ≡ false
 shifted n k e = grind (arith, nat_tests)
 
-below : (i k : ℕ) → i < 5 → nat_eq i (k + 5) ≡ false
+below : (i k : ℕ) → i < FIXED_PARTS → nat_eq i (k + FIXED_PARTS) ≡ false
 below i k low = grind (arith, nat_tests)
 
-above : (n i : ℕ) → i < 5 → nat_eq (n + 5) i ≡ false
+above : (n i : ℕ) → i < FIXED_PARTS → nat_eq (n + FIXED_PARTS) i ≡ false
 above n i low = grind (arith, nat_tests)
 
 left : (p r : Part) (q : Parts) → is_some (part_in (parts_of (without p q)) r) ≡ true → (nat_eq (place p) (place r) ≡ false) × (is_some (part_in (parts_of q) r) ≡ true)

@@ -23,6 +23,7 @@ use Rattle.part_rig.specs.declared.workroom.Workroom.{Workroom}
 use Rattle.part_rig.specs.Rooms.{IsRoomFor, HasRoomFor, or_spare, copied_in}
 use Rattle.part_rig.specs.RoomStays.{room_stays}
 use Rattle.part_rig.proofs.Telling.{some_is}
+use Rattle.part_slots.specs.declared.numbers.TheConstants.{FIXED_PARTS}
 
 -- ---- after a call
 
@@ -81,7 +82,7 @@ copied_stays shape p (slots.Counters kept) room fits has = record {
 copied_stays shape p (slots.Tick kept) room fits has = record { registry = has.registry; counters = has.counters; places = has.places }
 copied_stays shape p (slots.Pic kept) room fits has = record { registry = has.registry; counters = has.counters; places = has.places }
 copied_stays shape p (slots.Ioapic kept) room fits has = record { registry = has.registry; counters = has.counters; places = has.places }
-copied_stays shape p (slots.Lapic kept) room fits has = record { registry = has.registry; counters = has.counters; places = length-set room.rig.parts.lapics (p - 5) (Some kept) ∙ has.places }
+copied_stays shape p (slots.Lapic kept) room fits has = record { registry = has.registry; counters = has.counters; places = length-set room.rig.parts.lapics (p - FIXED_PARTS) (Some kept) ∙ has.places }
 
 -- so do copies of several parts
 pub rooms_copied : (shape : Shape) (ps : List ℕ) (hs : List (Held Slot)) (room : Workroom) → HasRoom HasRoomFor ps hs room → IsRoomFor shape room → IsRoomFor shape (copied_each copied_in ps hs room)

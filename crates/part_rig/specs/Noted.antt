@@ -6,6 +6,7 @@ use Rattle.board_step.specs.Publications.{words}
 use Rattle.part_slots.specs.Commits.{Seen}
 use Rattle.part_rig.specs.declared.reading.Reading.{Reading}
 use Rattle.part_rig.specs.Readings.{Places, read_at, word_under}
+use Rattle.board_model.specs.declared.width.TheConstants.{WORDS}
 
 -- the words that are published in the state of a seat's list
 abbrev pub published_at : Option Board → List ℕ
@@ -29,7 +30,7 @@ missing_after None None k = Some k
 -- whether it is the index of a word, if it is there
 abbrev pub is_index : Option ℕ → Bool
 is_index None = true
-is_index (Some k) = nat_lt k 4392
+is_index (Some k) = nat_lt k WORDS
 
 -- whether it is the index of a word that is not noted, if it is there
 abbrev pub is_blank : (ℕ → Option ℕ) → Option ℕ → Bool

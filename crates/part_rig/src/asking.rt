@@ -4,6 +4,7 @@ ghost use Rattle.route_table.specs.Pins.{IsPin};
 ghost use Rattle.route_bank.specs.Indices.{index_of_pin};
 ghost use Rattle.part_rig.specs.Noted.{missing_after};
 ghost use Rattle.part_rig.specs.Knowing.{noted_at};
+ghost use Rattle.board_model.specs.declared.width.TheConstants.{WORDS};
 
 use crate::known::Known;
 use crate::reading::word_under;
@@ -26,7 +27,7 @@ impl Known {
     /// The word of that index, if it counts as noted; else it is missing from now on, where none is yet.
     #[inline]
     pub(crate) fn word(&mut self, index: u16) -> Option<u64>
-        requires { index < 4392 }
+        requires { index < WORDS }
         ensures word { result ≡ noted_at self.old index }
         ensures missing { self.new.missing ≡ missing_after self.old.missing result index }
         ensures places { self.new.places ≡ self.old.places }
@@ -62,7 +63,7 @@ impl Known {
     #[inline]
     pub fn lacks(&self) -> Option<u16>
         ensures missing { result ≡ self.now.missing }
-        ensures low { IfSome result (λ k. k < 4392) }
+        ensures low { IfSome result (λ k. k < WORDS) }
         ensures blank { IfSome result (λ k. noted_at self.now k ≡ None) }
     {
         self.missing

@@ -6,14 +6,12 @@ ghost use Rattle.part_rig.specs.Readings.{AreNoted, AreOf, PinsFit, read_at};
 ghost use Rattle.part_rig.specs.Noted.{published_in, noted_by, is_index, is_blank};
 
 use crate::reading::Reading;
+use board_model::WORDS;
 use irq_base::NoMemory;
 use part_machine::RunningBoard;
 use std::alloc::Global;
 use std::snapshot::Snapshot;
 use turn_book::Pen;
-
-// How many words a board publishes.
-const WORDS: u16 = 4392;
 
 // So many places, in which nothing was read.
 fn places(alloc: Global, count: u16) -> Result<Vec<Option<Reading>>, NoMemory>
@@ -42,7 +40,7 @@ pub struct Known {
     pub(crate) missing: Option<u16>,
     // the pen at the last look
     pub(crate) at: Snapshot<Pen<RunningBoard>>,
-    pub ghost count: { length places.items ≡ 4392 },
+    pub ghost count: { length places.items ≡ WORDS },
     pub ghost told: { AreOf (published_in (view_of at.value.seat)) (noted_by settled looked places.items) },
     pub ghost pins: { PinsFit (noted_by settled looked places.items) },
     pub ghost low: { is_index missing ≡ true },

@@ -12,6 +12,7 @@ ghost use Rattle.part_slots.specs.Slots.{slots_of as slots_of_board};
 ghost use Rattle.part_rig.specs.Readings.{AreNoted, word_under, read_at, blanks_under};
 ghost use Rattle.part_rig.specs.Noted.{published_in};
 ghost use Rattle.part_rig.specs.Knowing.{list_of};
+ghost use Rattle.board_model.specs.declared.width.TheConstants.{WORDS};
 
 use crate::known::Known;
 use crate::reading::Reading;
@@ -51,7 +52,7 @@ impl Known {
         ensures places { self.new.places.items ≡ self.old.places.items }
         ensures looked { self.new.looked ≡ result.generation }
         ensures under { LookedUnder self.new.looked (view_of pen.new.seat) }
-        ensures few { (g : ℕ) → blanks_under g self.new.places.items ≤ 4392 }
+        ensures few { (g : ℕ) → blanks_under g self.new.places.items ≤ WORDS }
         ensures settled { self.new.settled ≡ true }
         ensures missing { self.new.missing ≡ None }
         ensures list { list_of self.new ≡ published_in (view_of pen.new.seat) }
@@ -86,7 +87,7 @@ impl Known {
     // Keeps a word that was read under the generation of the last look. No word counts as noted then.
     #[inline]
     fn keep(&mut self, index: u16, word: u64)
-        requires { index < 4392 }
+        requires { index < WORDS }
         ensures places { self.new.places.items
             ≡ slice_set self.old.places.items index (Some (record { word = word; generation = self.old.looked })) }
         ensures looked { self.new.looked ≡ self.old.looked }
@@ -113,10 +114,10 @@ impl Known {
         index: u16,
     ) -> u64
         requires book { pen.old.seat.table_id ≡ book.now.table.shared.table_id }
-        requires width { book.now.width ≡ 4392 }
+        requires width { book.now.width ≡ WORDS }
         requires looked { is_some (last_of (view_of pen.old.seat).looks) ≡ true }
         requires under { LookedUnder self.old.looked (view_of pen.old.seat) }
-        requires index { index < 4392 }
+        requires index { index < WORDS }
         requires noted { AreNoted (view_of pen.old.seat).notes self.old.places.items }
         ensures noted { AreNoted (view_of pen.new.seat).notes self.new.places.items }
         ensures under { LookedUnder self.new.looked (view_of pen.new.seat) }

@@ -5,6 +5,8 @@ ghost use Rattle.turn_book.specs.declared.view.Note.{Note};
 ghost use Rattle.part_rig.specs.Readings.{AreNoted};
 ghost use Rattle.irq_base.specs.declared.shape.Shape.{Shape as ShapeOf};
 ghost use Rattle.part_rig.specs.Rooms.{IsRoomFor, AreAt, IsBare, IsPlaceIn, nothing, fetched, cleared, cleared_each};
+ghost use Rattle.irq_bits.specs.declared.limits.TheConstants.{MAX_CPUS};
+ghost use Rattle.part_slots.specs.declared.numbers.TheConstants.{FIXED_PARTS};
 
 use crate::in_hand::InHand;
 use crate::known::Known;
@@ -108,8 +110,8 @@ impl Workroom {
 
     // Nor is that of any of these places.
     fn clear_each(&mut self, places: &[u32])
-        requires few { length self.old.rig.parts.lapics ≤ 64 }
-        requires places { AllBelow (5 + length self.old.rig.parts.lapics) places.now }
+        requires few { length self.old.rig.parts.lapics ≤ MAX_CPUS }
+        requires places { AllBelow (FIXED_PARTS + length self.old.rig.parts.lapics) places.now }
         ensures { self.new ≡ cleared_each places.now self.old }
     {
         if let Some((place, rest)) = places.split_first() {
@@ -122,8 +124,8 @@ impl Workroom {
     ///
     /// It takes no memory and gives none back, and goes through these places alone.
     pub fn begin(&mut self, places: &[u32])
-        requires few { length self.old.rig.parts.lapics ≤ 64 }
-        requires places { AllBelow (5 + length self.old.rig.parts.lapics) places.now }
+        requires few { length self.old.rig.parts.lapics ≤ MAX_CPUS }
+        requires places { AllBelow (FIXED_PARTS + length self.old.rig.parts.lapics) places.now }
         requires in_hand { AreAt places.now self.old.rig.parts }
         ensures bare { IsBare self.new.rig.parts }
         ensures parts { self.new.rig.parts ≡ nothing (length self.old.rig.parts.lapics) }

@@ -6,6 +6,7 @@ use Rattle.irq_base.specs.declared.shape.Part.{Part}
 use Rattle.irq_base.specs.declared.shape.Part.TheVariants.{Registry, Counters, Tick, Pic, Ioapic, Lapic}
 use Rattle.part_slots.specs.Callers.{is_caller, caller_number, next_caller, caller_at, CallersAreNumbers}
 use Rattle.part_slots.specs.Slots.{place, part_at, PartsHavePlaces}
+use Rattle.part_slots.specs.declared.numbers.TheConstants.{FIXED_PARTS}
 
 device_back : (d : ℕ) → caller_at (d * 2) ≡ Device d
 device_back zero = refl
@@ -47,7 +48,7 @@ callers_are_numbers = record { caller = of_caller; number = number_back; apart =
     of_caller (Device d) = device_back d
     of_caller (Cpu n) = cpu_back n
 
-pub five_more : (n : ℕ) → n + 5 ≡ suc (suc (suc (suc (suc n))))
+pub five_more : (n : ℕ) → n + FIXED_PARTS ≡ suc (suc (suc (suc (suc n))))
 five_more n = omega arith
 
 pub part_back : (p : Part) → part_at (place p) ≡ p

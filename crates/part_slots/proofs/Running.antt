@@ -23,6 +23,7 @@ use Rattle.part_slots.specs.Slots.{place, part_at, slots_of}
 use Rattle.part_slots.specs.Running.{Opens, IsStep, reach_at, HasRoom}
 use Rattle.part_slots.proofs.Inverse.{part_back}
 use Rattle.part_slots.proofs.Places.{lapic_slots, slot_same, part_same}
+use Rattle.part_slots.specs.declared.numbers.TheConstants.{FIXED_PARTS}
 
 pub one_step : (s : Board) (e : Entry) (t u : Board) → IsStep s e t → IsStep s e u → t ≡ u
 one_step s e t u one other = leads_to_one s e t u one.step other.step
@@ -30,13 +31,13 @@ one_step s e t u one other = leads_to_one s e t u one.step other.step
 -- ---- the frame
 
 pub count_stays : (s : Board) (e : Entry) (t : Board) → IsStep s e t → length (slots_of t) ≡ length (slots_of s)
-count_stays s e t step = slots_count t ∙ ap (λ n. n + 5) (steps_keep_the_frame s e t step.step).lapics ∙ sym (slots_count s)
+count_stays s e t step = slots_count t ∙ ap (λ n. n + FIXED_PARTS) (steps_keep_the_frame s e t step.step).lapics ∙ sym (slots_count s)
   where
     row_count : (row : List _) → length (lapic_slots row) ≡ length row
     row_count [] = refl
     row_count (a ∷ row) = ap suc (row_count row)
 
-    slots_count : (b : Board) → length (slots_of b) ≡ length b.lapics + 5
+    slots_count : (b : Board) → length (slots_of b) ≡ length b.lapics + FIXED_PARTS
     slots_count b = omega (arith, row_count b.lapics)
 
 pub unreached_stays : (s : Board) (e : Entry) (t : Board) (p : ℕ) → IsStep s e t → reach_at s e p ≡ false → slice_get (slots_of t) p ≡ slice_get (slots_of s) p

@@ -7,6 +7,7 @@ use Rattle.board_model.specs.Board.{Board}
 use Rattle.board_model.specs.Chips.{pair_of, ioapic_of}
 use Rattle.part_slots.specs.declared.slot.Slot.{Slot}
 use Rattle.part_slots.specs.declared.slot.Slot.TheVariants as slots
+use Rattle.part_slots.specs.declared.numbers.TheConstants.{FIXED_PARTS}
 
 -- the place of a part: its turn's number
 abbrev pub place : Part → ℕ
@@ -15,7 +16,7 @@ place Counters = 1
 place Tick = 2
 place Pic = 3
 place Ioapic = 4
-place (Lapic n) = n + 5
+place (Lapic n) = n + FIXED_PARTS
 
 -- the part of a place
 abbrev pub part_at : ℕ → Part

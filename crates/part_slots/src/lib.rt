@@ -16,6 +16,6 @@ pub use laws::{
     lacking_is_reached, openings_are_told, parts_have_places, runs_are_legal, slots_keep_parts,
     states_go_on, states_stand,
 };
-pub use numbers::{caller_number, part_at, place};
+pub use numbers::{FIXED_PARTS, caller_number, part_at, place};
 pub use slot::{Home, Slot};
 pub use state::State;

@@ -5,6 +5,9 @@ ghost use Rattle.part_slots.specs.Slots.{place as place_of_part, part_at as part
 
 use irq_base::{Caller, Part};
 
+/// The parts of a board before its local APICs: the registry, the counters, the tick, and the two chips.
+pub const FIXED_PARTS: u32 = 5;
+
 /// The number of a caller: twice that of a device, and twice that of a processor and 1.
 pub fn caller_number(caller: Caller) -> u32
     ensures { result ≡ number_of_caller caller }
@@ -25,7 +28,7 @@ pub fn place(part: Part) -> u32
         Part::Tick => 2,
         Part::Pic => 3,
         Part::Ioapic => 4,
-        Part::Lapic(n) => u32::from(n) + 5,
+        Part::Lapic(n) => u32::from(n) + FIXED_PARTS,
     }
 }
 
@@ -40,6 +43,6 @@ pub fn part_at(place: u32) -> Part
         2 => Part::Tick,
         3 => Part::Pic,
         4 => Part::Ioapic,
-        n => Part::Lapic((n - 5) as u16),
+        n => Part::Lapic((n - FIXED_PARTS) as u16),
     }
 }

@@ -24,6 +24,7 @@ use Rattle.script_text.proofs.Again.{decimal-again}
 use Rattle.script_text.proofs.WordsAgain.{are_words, both-true, and-left, and-right, decimal-graphic, decimal-word, word-append}
 use Rattle.script_text.proofs.LineCuts.{some_part, front-more, last-more}
 use Rattle.script_text.proofs.LinesAgain.{judged, task-again, line-again}
+use Rattle.irq_bits.specs.declared.limits.TheConstants.{MAX_CPUS}
 
 -- a line that is read has no line feed in it
 printable-of : (b : Bool) (r : Result Standing LineCause) (t : Standing) → (if not b then Err Char else r) ≡ Ok t → b ≡ true
@@ -61,10 +62,10 @@ version-again s = judged Version s 105 (codes "rqboard") (codes "1" ∷ []) refl
 one-is : (n : ℕ) → n ≤ 4000000 → are_words (decimal n ∷ []) ≡ true
 one-is n h = both-true _ _ (decimal-word n (omega (arith, h))) refl
 
-cpus-again : (s : Script) (n : ℕ) → 1 ≤ n → n ≤ 64 → judge Cpus s (joined (codes "cpus" ∷ decimal n ∷ [])) ≡ Ok (with_cpus s n)
+cpus-again : (s : Script) (n : ℕ) → 1 ≤ n → n ≤ MAX_CPUS → judge Cpus s (joined (codes "cpus" ∷ decimal n ∷ [])) ≡ Ok (with_cpus s n)
 cpus-again s n low high =
     judged Cpus s 99 (codes "pus") (decimal n ∷ []) refl refl refl (one-is n (omega (arith, high)))
-    ∙ ap (of_one (with_cpus s)) (decimal-again 1 64 n low high (omega (arith, high)))
+    ∙ ap (of_one (with_cpus s)) (decimal-again 1 MAX_CPUS n low high (omega (arith, high)))
 
 counters-again : (s : Script) (n : ℕ) → n ≤ 256 → judge (Within 0) s (joined (codes "counters" ∷ decimal n ∷ [])) ≡ Ok (with_counters s n)
 counters-again s n high =

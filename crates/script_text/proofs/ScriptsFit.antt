@@ -19,6 +19,7 @@ use Rattle.script_text.specs.Fitting.{IsLine, IsHeader, IsScript}
 use Rattle.script_text.proofs.WordsAgain.{and-left}
 use Rattle.script_text.proofs.FieldsFit.{if-either, one-fits, none-fits, of-one, decimal-fits}
 use Rattle.script_text.proofs.CommandsFit.{line-fits}
+use Rattle.irq_bits.specs.declared.limits.TheConstants.{MAX_CPUS}
 
 -- the script so far; while headers may come it has no line
 abbrev Stands : Place → Script → Type 0
@@ -46,9 +47,9 @@ version-stands s (name ∷ number ∷ more) h =
 cpus-stands : (s : Script) (words : List (List ℕ)) → Stands Cpus s → IfOk (cpus s words) StandsAt
 cpus-stands s [] h = tt
 cpus-stands s (name ∷ words) h =
-    if-either StandsAt (same_text name (codes "cpus")) (one_field (with_cpus s) (decimal_in 1 64) words) (Err Word)
+    if-either StandsAt (same_text name (codes "cpus")) (one_field (with_cpus s) (decimal_in 1 MAX_CPUS) words) (Err Word)
     (one-fits StandsAt words _ (λ w.
-    of-one StandsAt (λ n. (1 ≤ n) × (n ≤ 64)) (with_cpus s) (decimal_in 1 64 w) (decimal-fits 1 64 w)
+    of-one StandsAt (λ n. (1 ≤ n) × (n ≤ MAX_CPUS)) (with_cpus s) (decimal_in 1 MAX_CPUS w) (decimal-fits 1 MAX_CPUS w)
     (λ n r. begun 0 (record s.shape { cpus = n }) s h.1
     (record { cpus = r; counters = h.0.counters; tick = h.0.tick; calls = h.0.calls; publications = h.0.publications }))))
     tt

@@ -13,6 +13,7 @@ use Rattle.script_text.specs.declared.task.Task.{Task}
 use Rattle.script_text.specs.declared.task.Task.TheVariants.{Once, Repeat, Serve}
 use Rattle.script_text.specs.declared.task.ActorLine.{ActorLine}
 use Rattle.script_text.specs.Scripts.{Script, may_ask}
+use Rattle.irq_bits.specs.declared.limits.TheConstants.{MAX_CPUS}
 
 abbrev pub FitsRow : Row → Type 0
 FitsRow (Pic gsi n) = (gsi < 2 ^ 16) × (n < 2 ^ 8)
@@ -66,7 +67,7 @@ IsLine shape line = FitsCaller line.caller × FitsTask line.task × (may_ask sha
 
 -- the ranges of headers
 pub record IsHeader (shape : Shape) : Type 0 where
-  pub cpus : (1 ≤ shape.cpus) × (shape.cpus ≤ 64)
+  pub cpus : (1 ≤ shape.cpus) × (shape.cpus ≤ MAX_CPUS)
   pub counters : shape.counters ≤ 256
   pub tick : shape.tick ≤ 4095
   pub calls : (1 ≤ shape.calls) × (shape.calls ≤ 4000000)

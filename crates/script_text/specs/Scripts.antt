@@ -19,6 +19,7 @@ use Rattle.script_text.specs.Causes.{both, of_one, of_two}
 use Rattle.script_text.specs.Words.{same_text, is_empty_word, ended_lines, is_ended, words_of, none}
 use Rattle.script_text.specs.Numbers.{decimal_in, number16}
 use Rattle.script_text.specs.Commands.{command, one_field}
+use Rattle.irq_bits.specs.declared.limits.TheConstants.{MAX_CPUS}
 
 -- a script: the board that it wants, and what its actors' lines ask, in the order of the file
 pub record Script : Type 0 where
@@ -91,7 +92,7 @@ abbrev pub with_cpus : Script → ℕ → Standing
 with_cpus s n = (Within 0, record s { shape = record s.shape { cpus = n } })
 
 abbrev pub cpus : Script → List (List ℕ) → Result Standing LineCause
-cpus s (name ∷ words) = if same_text name (codes "cpus") then one_field (with_cpus s) (decimal_in 1 64) words else Err Word
+cpus s (name ∷ words) = if same_text name (codes "cpus") then one_field (with_cpus s) (decimal_in 1 MAX_CPUS) words else Err Word
 cpus s [] = Err Word
 
 -- the other headers, of which those below `past` are over

@@ -14,6 +14,7 @@ use crate::draft::Draft;
 use crate::numbers::decimal_in;
 use crate::words::{first_word, has_empty_word, is_none, next_word, one_word};
 use irq_base::LineCause;
+use irq_bits::MAX_CPUS;
 use std::alloc::Global;
 
 /// What is awaited behind a line.
@@ -68,13 +69,13 @@ fn version(draft: &Draft, line: &[u8]) -> Result<Place, LineFault>
 
 // `N` of `cpus`
 fn cpus(draft: &mut Draft, tail: &[u8]) -> Result<Place, LineFault>
-    ensures lead { Leads result draft.new (one_field (with_cpus (script_in draft.old)) (decimal_in 1 64) (more_words tail.now)) }
+    ensures lead { Leads result draft.new (one_field (with_cpus (script_in draft.old)) (decimal_in 1 MAX_CPUS) (more_words tail.now)) }
     ensures index { IsIndexedDraft draft.old → IsIndexedDraft draft.new }
 {
     let Some(word) = one_word(tail) else {
         return Err(LineFault::Bad(LineCause::Count));
     };
-    match decimal_in(1, 64, word) {
+    match decimal_in(1, MAX_CPUS as u64, word) {
         Ok(n) => {
             draft.shape.cpus = n as u16;
             Ok(Place::Within(0))

@@ -38,6 +38,7 @@ use Rattle.script_text.proofs.CommandsAgain.{number64-again, number16-again, num
 use Rattle.transcript.specs.Text.{reply_text}
 use Rattle.transcript.specs.Fields.{set_field, pic_field, cause, status_named, refusal_of, worded, refusal_by, reply, gsi_or_none, event}
 use Rattle.transcript.specs.Fitting.{FitsSet, FitsStatus, FitsReply, FitsEvent}
+use Rattle.irq_bits.specs.declared.limits.TheConstants.{MAX_CPUS}
 
 -- ---- hexadecimal numbers without leading zeros
 
@@ -106,20 +107,20 @@ number-below (suc k) p = by (p k) (number_of k p) (number-below k p)
 
 -- ---- statuses
 
-new-again : (s : Numbers) → FitsSet s → set_field (codes "new=") (codes "new=" ++ hex (word_of 64 s)) ≡ Ok s
-new-again s h = ap (of_one (λ bits. members_of 64 bits)) (hex-read (word_of 64 s) (number-below 64 (set.contains s))) ∙ ap (λ t. Ok t) h
+new-again : (s : Numbers) → FitsSet s → set_field (codes "new=") (codes "new=" ++ hex (word_of MAX_CPUS s)) ≡ Ok s
+new-again s h = ap (of_one (λ bits. members_of MAX_CPUS bits)) (hex-read (word_of MAX_CPUS s) (number-below MAX_CPUS (set.contains s))) ∙ ap (λ t. Ok t) h
 
-stood-again : (s : Numbers) → FitsSet s → set_field (codes "stood=") (codes "stood=" ++ hex (word_of 64 s)) ≡ Ok s
-stood-again s h = ap (of_one (λ bits. members_of 64 bits)) (hex-read (word_of 64 s) (number-below 64 (set.contains s))) ∙ ap (λ t. Ok t) h
+stood-again : (s : Numbers) → FitsSet s → set_field (codes "stood=") (codes "stood=" ++ hex (word_of MAX_CPUS s)) ≡ Ok s
+stood-again s h = ap (of_one (λ bits. members_of MAX_CPUS bits)) (hex-read (word_of MAX_CPUS s) (number-below MAX_CPUS (set.contains s))) ∙ ap (λ t. Ok t) h
 
-set-graphic : (s : Numbers) → list_all is_graphic (hex (word_of 64 s)) ≡ true
-set-graphic s = digits-graphic (hex (word_of 64 s)) (hex-numeral (word_of 64 s) (number-below 64 (set.contains s))).0.1
+set-graphic : (s : Numbers) → list_all is_graphic (hex (word_of MAX_CPUS s)) ≡ true
+set-graphic s = digits-graphic (hex (word_of MAX_CPUS s)) (hex-numeral (word_of MAX_CPUS s) (number-below MAX_CPUS (set.contains s))).0.1
 
-new-is : (s : Numbers) → is_word (codes "new=" ++ hex (word_of 64 s)) ≡ true
-new-is s = word-append (codes "new=") (hex (word_of 64 s)) refl (set-graphic s)
+new-is : (s : Numbers) → is_word (codes "new=" ++ hex (word_of MAX_CPUS s)) ≡ true
+new-is s = word-append (codes "new=") (hex (word_of MAX_CPUS s)) refl (set-graphic s)
 
-stood-is : (s : Numbers) → is_word (codes "stood=" ++ hex (word_of 64 s)) ≡ true
-stood-is s = word-append (codes "stood=") (hex (word_of 64 s)) refl (set-graphic s)
+stood-is : (s : Numbers) → is_word (codes "stood=" ++ hex (word_of MAX_CPUS s)) ≡ true
+stood-is s = word-append (codes "stood=") (hex (word_of MAX_CPUS s)) refl (set-graphic s)
 
 abbrev pic_text : Bool → List ℕ
 pic_text pic = codes "pic=" ++ decimal (if pic then 1 else 0)
@@ -161,8 +162,8 @@ last-word head word = ap (λ t. head ++ t) (sym (append-nil word))
 
 pub status-again : (s : Status) → FitsStatus s → StatusAgain s
 status-again (Delivered new stood pic) h =
-    let a = hex (word_of 64 new) in
-    let b = hex (word_of 64 stood) in
+    let a = hex (word_of MAX_CPUS new) in
+    let b = hex (word_of MAX_CPUS stood) in
     record {
       name = codes "delivered";
       words = (codes "new=" ++ a) ∷ (codes "stood=" ++ b) ∷ pic_text pic ∷ [];
@@ -173,8 +174,8 @@ status-again (Delivered new stood pic) h =
     }
 status-again (Coalesced stood) h = record {
   name = codes "coalesced";
-  words = (codes "stood=" ++ hex (word_of 64 stood)) ∷ [];
-  spelled = last-word (codes "coalesced stood=") (hex (word_of 64 stood));
+  words = (codes "stood=" ++ hex (word_of MAX_CPUS stood)) ∷ [];
+  spelled = last-word (codes "coalesced stood=") (hex (word_of MAX_CPUS stood));
   read = λ i. of_one (λ s. Coalesced s) (stood-again stood h i);
   alone = refl;
   are = both-true _ _ (stood-is stood) refl;

@@ -25,13 +25,14 @@ use Rattle.script_text.specs.Causes.{of_one, of_two, of_three}
 use Rattle.script_text.specs.Words.{same_text, none, one, two}
 use Rattle.script_text.specs.Numbers.{hex64, hex8, number64, number16, number8}
 use Rattle.script_text.specs.Commands.{fixed_word, three_fields}
+use Rattle.irq_bits.specs.declared.limits.TheConstants.{MAX_CPUS}
 
 -- ---- statuses
 
 -- a set of processors behind its label, as `new=`: the word of the set in hexadecimal
 abbrev pub set_field : List ℕ → List ℕ → Result Numbers LineCause
 set_field label word =
-    if same_text (take (length label) word) label then of_one (λ bits. members_of 64 bits) (hex64 (drop (length label) word))
+    if same_text (take (length label) word) label then of_one (λ bits. members_of MAX_CPUS bits) (hex64 (drop (length label) word))
     else Err Number
 
 -- whether the 8259A newly took it

@@ -1,4 +1,4 @@
--- The transcripts that a run can have: each number fits its type, and a set has numbers below 64 alone.
+-- The transcripts that a run can have: each number fits its type, and a set has numbers below MAX_CPUS alone.
 use Rattle.std.specs.Prelude.{◌≡◌, ◌^◌, ◌<◌, All, length}
 use Rattle.irq_bits.specs.Members.{Numbers, members_of, word_of}
 use Rattle.irq_base.specs.declared.event.Event.{Event}
@@ -13,10 +13,11 @@ use Rattle.irq_base.specs.declared.status.Status.{Status}
 use Rattle.irq_base.specs.declared.status.Status.TheVariants.{Delivered, Coalesced, Ignored, Lowered}
 use Rattle.script_text.specs.Fitting.{FitsCall, FitsCaller, FitsIfThere}
 use Rattle.transcript.specs.declared.transcript.Transcript.{Transcript}
+use Rattle.irq_bits.specs.declared.limits.TheConstants.{MAX_CPUS}
 
--- a set that a word of 64 bits gives back
+-- a set that its word gives back
 abbrev pub FitsSet : Numbers → Type 0
-FitsSet s = members_of 64 (word_of 64 s) ≡ s
+FitsSet s = members_of MAX_CPUS (word_of MAX_CPUS s) ≡ s
 
 abbrev pub FitsStatus : Status → Type 0
 FitsStatus (Delivered new stood pic) = FitsSet new × FitsSet stood

@@ -13,20 +13,22 @@ use Rattle.rand_pcg.specs.Pcg.{pcg32}
 use Rattle.workload_gen.specs.Workload.{asks, alone, of_draw, each_below, enable, row, reroute, trigger, set_up, message, processor_call, device_call, call_of, actor, drawn, draws_at, drawn_line, shape_of, workload}
 use Rattle.workload_gen.specs.Laws.{IsInRange}
 use Rattle.workload_gen.proofs.Below.{all-append, each-holds}
+use Rattle.irq_bits.specs.declared.limits.TheConstants.{MAX_CPUS}
+use Rattle.irq_base.specs.declared.limits.TheConstants.{MAX_DEVICES}
 
 -- a remainder is below what it is of
 below-cpus : (x c : ℕ) → 1 ≤ c → x % c < c
 below-cpus x c h = omega (arith, h)
 
-row-fits : (c s j : ℕ) → 1 ≤ c → c ≤ 64 → j < 8 → FitsRow (row c s j)
+row-fits : (c s j : ℕ) → 1 ≤ c → c ≤ MAX_CPUS → j < 8 → FitsRow (row c s j)
 row-fits c s j some few below =
     let r = below-cpus (j + s) c some in
     (omega (arith, below), omega (arith, r, few), omega (arith, below))
 
-reroute-fits : (c s : ℕ) → 1 ≤ c → c ≤ 64 → FitsCall (reroute c s)
+reroute-fits : (c s : ℕ) → 1 ≤ c → c ≤ MAX_CPUS → FitsCall (reroute c s)
 reroute-fits c s some few = each-holds FitsRow (row c s) 8 (λ j below. row-fits c s j some few below)
 
-message-fits : (c x : ℕ) → 1 ≤ c → c ≤ 64 → FitsCall (message c x)
+message-fits : (c x : ℕ) → 1 ≤ c → c ≤ MAX_CPUS → FitsCall (message c x)
 message-fits c x some few =
     let r = below-cpus x c some in
     let v = below-cpus (x / 65536) 200 (omega arith) in
@@ -36,20 +38,20 @@ message-fits c x some few =
 abbrev Fits : ℕ → Caller → Call → Type 0
 Fits c who call = IsLine (shape_of c) (asks who call)
 
-cpu-line : (c n : ℕ) (call : Call) → c ≤ 64 → n < c → FitsCall call → is_allowed (Cpu n) call (shape_of c) ≡ nat_lt n c → Fits c (Cpu n) call
+cpu-line : (c n : ℕ) (call : Call) → c ≤ MAX_CPUS → n < c → FitsCall call → is_allowed (Cpu n) call (shape_of c) ≡ nat_lt n c → Fits c (Cpu n) call
 cpu-line c n call few below fits allowed = (omega (arith, few, below), fits, allowed ∙ true-is n c below)
   where
     true-is : (n c : ℕ) → n < c → nat_lt n c ≡ true
     true-is n c h = grind (arith, nat_tests, h)
 
 device-line : (c d : ℕ) (call : Call) → d < 2 → FitsCall call → is_of_processor call ≡ false → Fits c (Device d) call
-device-line c d call below fits free = (omega (arith, below), fits, ap (λ t. nat_lt d 64 && not t) free ∙ true-is d below)
+device-line c d call below fits free = (omega (arith, below), fits, ap (λ t. nat_lt d MAX_DEVICES && not t) free ∙ true-is d below)
   where
-    true-is : (d : ℕ) → d < 2 → (nat_lt d 64 && true) ≡ true
+    true-is : (d : ℕ) → d < 2 → (nat_lt d MAX_DEVICES && true) ≡ true
     true-is d h = grind (arith, nat_tests, h)
 
 -- a processor's and a device's draws
-cpu-draw : (c n r : ℕ) (g : Lcg) → 1 ≤ c → c ≤ 64 → n < c → Fits c (Cpu n) (processor_call c r g).0
+cpu-draw : (c n r : ℕ) (g : Lcg) → 1 ≤ c → c ≤ MAX_CPUS → n < c → Fits c (Cpu n) (processor_call c r g).0
 cpu-draw c n r g some few below =
     elim (nat_eq r 0) as (λ t. Fits c (Cpu n) ((if t then alone Ack else (if nat_eq r 1 then alone Eoi else (if nat_eq r 2 then of_draw (message c) else alone (Load 0xfee000a0 4)))) g).0) [
       | true ↦ cpu-line c n Ack few below tt refl
@@ -62,7 +64,7 @@ cpu-draw c n r g some few below =
       ]
     ]
 
-device-draw : (c d r : ℕ) (g : Lcg) → 1 ≤ c → c ≤ 64 → d < 2 → Fits c (Device d) (device_call c r g).0
+device-draw : (c d r : ℕ) (g : Lcg) → 1 ≤ c → c ≤ MAX_CPUS → d < 2 → Fits c (Device d) (device_call c r g).0
 device-draw c d r g some few below =
     let x = (pcg32 g).0 in
     let counter : x % 16 < 2 ^ 16 = omega arith in
@@ -89,7 +91,7 @@ actor-holds P c k cpus devices = by_test (nat_lt (k % (c + 2)) c) refl
         small : (a c : ℕ) → a < c + 2 → nat_lt a c ≡ false → a - c < 2
         small a c below h = grind (arith, nat_tests, below, h)
 
-drawn-fits : (c k : ℕ) (g : Lcg) → 1 ≤ c → c ≤ 64 → Fits c (actor c k) (drawn c k g).0
+drawn-fits : (c k : ℕ) (g : Lcg) → 1 ≤ c → c ≤ MAX_CPUS → Fits c (actor c k) (drawn c k g).0
 drawn-fits c k g some few =
     elim (nat_eq (k % 1000) 999) as (λ t. Fits c (actor c k) (if t then alone (reroute c ((k + 1) / 1000)) g else call_of (actor c k) c ((pcg32 g).0 % 4) (pcg32 g).1).0) [
       | true ↦ actor-holds (λ who. Fits c who (reroute c ((k + 1) / 1000))) c k
@@ -101,7 +103,7 @@ drawn-fits c k g some few =
     ]
 
 -- the lines that set up
-set_up-fits : (c : ℕ) → 1 ≤ c → c ≤ 64 → All (IsLine (shape_of c)) (set_up c)
+set_up-fits : (c : ℕ) → 1 ≤ c → c ≤ MAX_CPUS → All (IsLine (shape_of c)) (set_up c)
 set_up-fits c some few =
     all-append (IsLine (shape_of c)) (each_below enable c) (asks (Device 0) (reroute c 0) ∷ each_below trigger 8)
     (each-holds (IsLine (shape_of c)) enable c (λ n below. cpu-line c n (Store 0xfee000f0 4 0x1ff) few below (omega arith, omega arith, omega arith) refl))

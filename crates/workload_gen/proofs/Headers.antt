@@ -27,6 +27,7 @@ use Rattle.script_text.proofs.LinesAgain.{judged, task-again, line-again}
 use Rattle.script_text.proofs.ScriptsAgain.{no-feed}
 use Rattle.workload_gen.specs.Workload.{shape_of}
 use Rattle.workload_gen.specs.Text.{header_words}
+use Rattle.irq_bits.specs.declared.limits.TheConstants.{MAX_CPUS}
 
 -- a line that is read has no line feed in it
 printable-of : (b : Bool) (r : Result Standing LineCause) (t : Standing) → (if not b then Err Char else r) ≡ Ok t → b ≡ true
@@ -106,10 +107,10 @@ all-again s n (line ∷ lines) h =
 
 -- ---- the headers
 
-cpus-again : (s : Script) (n : ℕ) → 1 ≤ n → n ≤ 64 → judge Cpus s (joined (codes "cpus" ∷ decimal n ∷ [])) ≡ Ok (with_cpus s n)
+cpus-again : (s : Script) (n : ℕ) → 1 ≤ n → n ≤ MAX_CPUS → judge Cpus s (joined (codes "cpus" ∷ decimal n ∷ [])) ≡ Ok (with_cpus s n)
 cpus-again s n low high =
     judged Cpus s 99 (codes "pus") (decimal n ∷ []) refl refl refl (both-true _ _ (decimal-word n (omega (arith, high))) refl)
-    ∙ ap (of_one (with_cpus s)) (decimal-again 1 64 n low high (omega (arith, high)))
+    ∙ ap (of_one (with_cpus s)) (decimal-again 1 MAX_CPUS n low high (omega (arith, high)))
 
 counters-again : (s : Script) → judge (Within 0) s (joined (codes "counters" ∷ codes "16" ∷ [])) ≡ Ok (with_counters s 16)
 counters-again s = judged (Within 0) s 99 (codes "ounters") (codes "16" ∷ []) refl refl refl refl
@@ -118,7 +119,7 @@ calls-again : (s : Script) → judge (Within 1) s (joined (codes "calls" ∷ cod
 calls-again s = judged (Within 1) s 99 (codes "alls") (codes "2000000" ∷ []) refl refl refl refl
 
 -- a script of these lines with the header of a generated one
-pub text-again : (c : ℕ) (lines : List ActorLine) → 1 ≤ c → c ≤ 64 → All (IsLine (shape_of c)) lines →
+pub text-again : (c : ℕ) (lines : List ActorLine) → 1 ≤ c → c ≤ MAX_CPUS → All (IsLine (shape_of c)) lines →
     script_of (with_feeds (map joined (header_words c ++ (map actor_words lines ++ (codes "end" ∷ []) ∷ [])))) ≡ Ok (record { shape = shape_of c; lines = lines })
 text-again c lines some few are =
     let a = blank_script in

@@ -21,6 +21,7 @@ use Rattle.workload_gen.specs.Text.{workload_text}
 use Rattle.workload_gen.specs.Laws.{IsInRange}
 use Rattle.workload_gen.proofs.Below.{all-append, each-holds, length-each}
 use Rattle.workload_gen.proofs.Fitting.{actor-holds}
+use Rattle.irq_bits.specs.declared.limits.TheConstants.{MAX_CPUS}
 
 -- ---- numbers
 
@@ -123,7 +124,7 @@ device-draw c r g =
       ]
     ]
 
-drawn-short : (c k : ℕ) (g : Lcg) → c ≤ 64 → LineIsShort (asks (actor c k) (drawn c k g).0)
+drawn-short : (c k : ℕ) (g : Lcg) → c ≤ MAX_CPUS → LineIsShort (asks (actor c k) (drawn c k g).0)
 drawn-short c k g few =
     elim (nat_eq (k % 1000) 999) as (λ t. LineIsShort (asks (actor c k) (if t then alone (reroute c ((k + 1) / 1000)) g else call_of (actor c k) c ((pcg32 g).0 % 4) (pcg32 g).1).0)) [
       | true ↦ actor-holds (λ who. LineIsShort (asks who (reroute c ((k + 1) / 1000)))) c k
@@ -134,7 +135,7 @@ drawn-short c k g few =
           (λ d below. device-short d (device_call c ((pcg32 g).0 % 4) (pcg32 g).1).0 below (device-draw c ((pcg32 g).0 % 4) (pcg32 g).1))
     ]
 
-set_up-short : (c : ℕ) → c ≤ 64 → All LineIsShort (set_up c)
+set_up-short : (c : ℕ) → c ≤ MAX_CPUS → All LineIsShort (set_up c)
 set_up-short c few =
     all-append LineIsShort (each_below enable c) (asks (Device 0) (reroute c 0) ∷ each_below trigger 8)
     (each-holds LineIsShort enable c (λ n below. cpu-short n (Store 0xfee000f0 4 0x1ff) (omega (arith, few, below)) store-short))

@@ -2,6 +2,7 @@
 ghost use Rattle.std.specs.Prelude.{◌≡◌, ◌<◌, ◌≤◌, ◌%◌, IfOk};
 ghost use Rattle.rand_pcg.specs.Pcg.{pcg32};
 ghost use Rattle.workload_gen.specs.Workload.{message_address, message, processor_call, device_call, actor, drawn, call_of};
+ghost use Rattle.irq_bits.specs.declared.limits.TheConstants.{MAX_CPUS};
 
 use crate::setting_up::rerouting;
 use irq_base::{Call, Caller, NoMemory};
@@ -70,7 +71,7 @@ fn device_call(draws: &mut Pcg32, cpus: u16, r: u32) -> Call
 
 /// The actor of line k: the processors, and then devices 0 and 1, in turn.
 pub fn actor(cpus: u16, k: u32) -> Caller
-    requires few { cpus ≤ 64 }
+    requires few { cpus ≤ MAX_CPUS }
     ensures { result ≡ actor cpus k }
 {
     let a = (k % (u32::from(cpus) + 2)) as u16;
@@ -97,7 +98,7 @@ fn call_of(draws: &mut Pcg32, caller: Caller, cpus: u16) -> Call
 /// What line k asks. Every thousandth line reroutes and draws nothing.
 pub fn drawn(alloc: Global, draws: &mut Pcg32, cpus: u16, k: u32) -> Result<Call, NoMemory>
     requires some { 1 ≤ cpus }
-    requires few { cpus ≤ 64 }
+    requires few { cpus ≤ MAX_CPUS }
     requires line { k < 400000 }
     ensures call { IfOk result (λ call. call ≡ (drawn cpus k draws.old).0) }
     ensures draws { draws.new ≡ (drawn cpus k draws.old).1 }

@@ -5,6 +5,7 @@ ghost use Rattle.script_text.specs.Spelling.{with_feeds, joined};
 ghost use Rattle.workload_gen.specs.Workload.{asks, each_below, enable, set_up, trigger, drawn_line};
 ghost use Rattle.workload_gen.specs.Laws.{IsInRange};
 ghost use Rattle.workload_gen.specs.Text.{header_words, lines_text, workload_text};
+ghost use Rattle.irq_bits.specs.declared.limits.TheConstants.{MAX_CPUS};
 
 use crate::drawing::{actor, drawn};
 use crate::setting_up::rerouting;
@@ -79,7 +80,7 @@ fn push_drawn(
 ) -> Result<(), NoMemory>
     requires lines { lines ≤ 400000 }
     requires some { 1 ≤ cpus }
-    requires few { cpus ≤ 64 }
+    requires few { cpus ≤ MAX_CPUS }
     ensures { OnOk result (string_bytes text.new ≡ string_bytes text.old ++ lines_text (each_below (drawn_line start cpus) lines)) }
 {
     let mut draws = Pcg32::new(start, 54);
@@ -113,7 +114,7 @@ fn header(alloc: Global, cpus: u16) -> Result<String, AllocError>
 }
 
 /// The text of the script of three numbers: where the draws start, how many lines are drawn (at most 400,000), and how many
-/// processors there are (1 to 64).
+/// processors there are (1 to `MAX_CPUS`).
 #[tactic(auto, using(crate::proofs::Below::whole_rules))]
 pub fn generate(alloc: Global, start: u64, lines: u32, cpus: u16) -> Result<Bytes, NoMemory>
     requires { IsInRange lines cpus }

@@ -38,7 +38,7 @@ fn lines_of(alloc: Global, history: &History) -> Result<String, AllocError>
 }
 
 /// Replays the script of three numbers, and counts what is replied: the eight lines of its summary, a function of these numbers, which
-/// are where the draws start, how many lines are drawn (at most 400,000), and how many processors there are (1 to 64).
+/// are where the draws start, how many lines are drawn (at most 400,000), and how many processors there are (1 to `MAX_CPUS`).
 pub fn sum(alloc: Global, start: u64, lines: u32, cpus: u16) -> Result<Bytes, NoMemory>
     requires { IsInRange lines cpus }
     ensures { IfOk result (λ bytes. IsSummary start lines cpus bytes) }
