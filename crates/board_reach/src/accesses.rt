@@ -11,8 +11,8 @@ ghost use Rattle.board_reach.specs.Seen.{routing_seen, SeenFits, of_port_out, of
 
 use crate::acks::{chip, of_end, of_pic_pin, of_resend, pair};
 use crate::registrations::of_counter;
-use crate::signals::{is_ioapic, is_lapic, is_pic, is_registry, of_message};
 use crate::seen::Seen;
+use crate::signals::{is_ioapic, is_lapic, is_pic, is_registry, of_message};
 use board_calls::{is_ioapic_address, is_lapic_address, is_port};
 use board_raise::IoPart;
 use irq_base::{Message, Part, Space};

@@ -14,8 +14,8 @@ ghost use Rattle.board_step.specs.Reach.{of_end, of_cycle};
 ghost use Rattle.board_reach.specs.ReachNow.{pin_freed, part_freed, part_cleared, cleared, of_acknowledge_now};
 ghost use Rattle.board_reach.specs.Seen.{board_seen, routing_seen, SeenFits, of_entry, of_steps, is_ended, row, acks_row, chip_seen};
 
-use crate::signals::{copied, is_ioapic, is_tick, of_gsi, of_message};
 use crate::seen::Seen;
+use crate::signals::{copied, is_ioapic, is_tick, of_gsi, of_message};
 use board_raise::{IoPart, PicPart};
 use ioapic_82093aa::Ioapic;
 use irq_base::{Message, Part, Pin, Source};

@@ -17,11 +17,11 @@ ghost use Rattle.board_reach.specs.Seen.{board_seen, SeenFits, PartsFit, of_pair
 use crate::accesses::{of_load, of_port_in, of_port_out, of_store, own_lapic};
 use crate::acks::{of_cycle, of_end, pair};
 use crate::registrations::{does_inject, does_release, of_write};
+use crate::seen::Seen;
 use crate::signals::{
     is_counters, is_ioapic, is_lapic, is_pic, is_registry, is_tick, message_of, of_fall_of, of_gsi,
     of_message,
 };
-use crate::seen::Seen;
 use board_calls::{hears_pair, refused_by_range};
 use board_raise::Parts;
 use board_step::number_of;

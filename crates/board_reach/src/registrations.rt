@@ -7,8 +7,8 @@ ghost use Rattle.irqfd_set.specs.Rows.{has_trigger, of_trigger, named_row, has_r
 ghost use Rattle.board_step.specs.Reach.{of_counter, of_write, does_inject, does_release};
 ghost use Rattle.board_reach.specs.Seen.{routing_seen, SeenFits, is_trigger_in, is_free, if_of, row, release_row};
 
-use crate::signals::{is_counters, of_gsi};
 use crate::seen::Seen;
+use crate::signals::{is_counters, of_gsi};
 use board_calls::assign_refusal;
 use board_raise::RegistryPart;
 use irq_base::Part;
