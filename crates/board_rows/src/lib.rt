@@ -24,6 +24,8 @@ mod refusals;
 #[cfg(test)]
 mod registrations;
 #[cfg(test)]
+mod registries;
+#[cfg(test)]
 mod rigs;
 #[cfg(test)]
 mod ticks;

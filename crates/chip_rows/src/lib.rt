@@ -2,6 +2,8 @@
 #![tactic(auto)]
 
 #[cfg(test)]
+mod copies;
+#[cfg(test)]
 mod ioapic;
 #[cfg(test)]
 mod local_apic;
@@ -9,6 +11,8 @@ mod local_apic;
 mod messages;
 #[cfg(test)]
 mod pic;
+#[cfg(test)]
+mod routes;
 #[cfg(test)]
 mod tables;
 #[cfg(test)]

@@ -1,0 +1,179 @@
+//! The routing table at power-on and with other rows, published words, and the sources of pins.
+use irq_base::{Items, MsiWord, NoMemory, Pin, Row, Rows, Source, Targets};
+use route_table::{Table, decode, encode};
+use source_levels::Levels;
+use std::alloc::Global;
+use std::test::Fail;
+
+fn pic(gsi: u16, pin: u8) -> Row {
+    Row::Pic { gsi, pin }
+}
+
+fn msi(gsi: u16, address: u64) -> Row {
+    Row::Msi {
+        gsi,
+        address,
+        payload: 0x41,
+    }
+}
+
+fn rows_of(alloc: Global, list: &[Row]) -> Result<Rows, NoMemory> {
+    let mut rows = Items::empty(alloc);
+    for row in list {
+        rows.push(*row)?;
+    }
+    Ok(rows)
+}
+
+fn pins(pic: Option<u8>, ioapic: Option<u8>) -> Targets {
+    Targets {
+        pic,
+        ioapic,
+        msi: None,
+    }
+}
+
+fn message(address: u64, payload: u32) -> Targets {
+    Targets {
+        pic: None,
+        ioapic: None,
+        msi: Some(MsiWord { address, payload }),
+    }
+}
+
+// The table at power-on with these rows in the place of its own.
+fn replaced(alloc: Global, list: &[Row]) -> Result<Table, Fail> {
+    let mut table = Table::power_on(alloc)?;
+    let rows = rows_of(alloc, list)?;
+    match table.replace(&rows) {
+        Ok(()) => Ok(table),
+        Err(_) => Err(Fail::from("refused")),
+    }
+}
+
+// Where a GSI goes, if there is one of the number.
+fn targets(table: &Table, gsi: u16) -> Option<Targets> {
+    if gsi < 4096 {
+        Some(table.targets(gsi))
+    } else {
+        None
+    }
+}
+
+// The GSIs of the pins of a number.
+fn owners(table: &Table, pin: u8) -> (Option<u16>, Option<u16>) {
+    (table.gsi_of(Pin::Pic(pin)), table.gsi_of(Pin::Ioapic(pin)))
+}
+
+// GSI n below 16 has both pins n, GSI 16 to 23 the pin of the I/O APIC, and 24 none.
+#[test]
+fn routes_at_power_on(rt: HostRuntime) -> Result<(), Fail> {
+    let table = Table::power_on(rt.alloc())?;
+    for n in 0..25u8 {
+        let gsi = u16::from(n);
+        let (wanted, pins) = match n {
+            0..=15 => (pins(Some(n), Some(n)), (Some(gsi), Some(gsi))),
+            16..=23 => (pins(None, Some(n)), (None, Some(gsi))),
+            _ => (pins(None, None), (None, None)),
+        };
+        assert!(rt;
+            targets(&table, gsi) == Some(wanted) && owners(&table, n) == pins,
+            "{n}"
+        );
+    }
+    Ok(())
+}
+
+// One row alone; 4,096 rows, a copy of their table, and then none.
+#[test]
+fn routes_that_are_replaced(rt: HostRuntime) -> Result<(), Fail> {
+    let one = replaced(rt.alloc(), &[pic(5, 6)])?;
+    assert!(rt;
+        targets(&one, 5) == Some(pins(Some(6), None)) && targets(&one, 6) == Some(pins(None, None))
+    );
+    assert!(rt; owners(&one, 6) == (Some(5), None) && owners(&one, 5) == (None, None));
+    let mut list = Vec::new(rt.alloc());
+    for gsi in 0..4096 {
+        list.push(msi(gsi, 0xfee0_0000))?;
+    }
+    let mut table = replaced(rt.alloc(), list.as_slice())?;
+    let mut copy = Table::power_on(rt.alloc())?;
+    copy.copy_from(&table);
+    let none = rows_of(rt.alloc(), &[])?;
+    let done = table.replace(&none);
+    let word = message(0xfee0_0000, 0x41);
+    assert!(rt; done == Ok(()) && targets(&table, 4095) == Some(pins(None, None)));
+    assert!(rt; targets(&copy, 0) == Some(word) && targets(&copy, 4095) == Some(word));
+    assert!(rt; owners(&copy, 0) == (None, None));
+    Ok(())
+}
+
+// Words by hand, both ways: 1 for pins, 2 for a message; 4 and 8 times the number for a pin of the 8259A, 128 and 256 times
+// the number for one of the I/O APIC; 4 times the low 20 bits of the address and 2^22 times the payload; 2^63 for the mark.
+#[test]
+fn words(rt: HostRuntime) -> Result<(), Fail> {
+    for (targets, marked, word) in [
+        (pins(None, None), false, 0),
+        (pins(None, None), true, 0x8000_0000_0000_0000),
+        (pins(Some(5), Some(5)), false, 0x5ad),
+        (pins(Some(15), Some(23)), false, 0x17fd),
+        (pins(Some(0), None), false, 5),
+        (pins(None, Some(16)), true, 0x8000_0000_0000_1081),
+        (message(0xfee0_1000, 0x4041), false, 0x10_1040_4002),
+        (
+            message(0xfeef_ffff, 0xffff_ffff),
+            false,
+            0x003f_ffff_ffff_fffe,
+        ),
+        (message(0xfee0_0000, 0), true, 0x8000_0000_0000_0002),
+    ] {
+        assert_eq!(rt; encode(&targets, marked), word);
+        assert_eq!(rt; decode(word), (targets, marked));
+    }
+    for word in [
+        1,
+        3,
+        4,
+        9,
+        0x1881,
+        0x25ad,
+        0x0040_0000_0000_0002,
+        0x8000_0000_0000_0001,
+        0x4000_0000_0000_0000,
+        0xffff_ffff_ffff_ffff,
+    ] {
+        assert_eq!(rt; decode(word), (pins(None, None), false), "at {word}");
+    }
+    Ok(())
+}
+
+// What the levels of two pins are.
+fn highs(levels: &Levels<24>) -> [bool; 4] {
+    [
+        levels.high(0),
+        levels.high(10),
+        levels.high(11),
+        levels.high(23),
+    ]
+}
+
+// A pin stays high while one source is left, and is forgotten at once; a copy stays as it was copied.
+#[test]
+fn levels(rt: HostRuntime) {
+    let mut levels: Levels<24> = Levels::none();
+    levels.raise(10, Source::Line(0));
+    levels.raise(10, Source::Line(7));
+    levels.lower(10, Source::Line(0));
+    let first = highs(&levels);
+    levels.lower(10, Source::Line(7));
+    let second = highs(&levels);
+    levels.raise(23, Source::Resample);
+    levels.raise(23, Source::Tick);
+    levels.raise(0, Source::Pulse);
+    let mut copy: Levels<24> = Levels::none();
+    copy.copy_from(&levels);
+    levels.forget(23);
+    assert!(rt; first == [false, true, false, false] && second == [false; 4]);
+    assert!(rt; highs(&levels) == [true, false, false, false]);
+    assert!(rt; highs(&copy) == [true, false, false, true]);
+}
