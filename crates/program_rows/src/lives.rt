@@ -52,58 +52,60 @@ fn run<R: Threads + Wait + Sync, G: Gate>(
     }
 }
 
-// Scripts, with the outcome and the entries: of one actor, of none, of one that a limit stops, and of three of which it stops some; and those
-// in which both limits are reached, where the limit is told that barred the call of the first actor that was stopped.
-const RUNS: [(&str, Outcome, u64); 8] = [
-    (FIRST_SCRIPT, Outcome::Fine, 4),
-    ("irqboard 1\ncpus 1\nend\n", Outcome::Fine, 0),
+// Scripts, with the limit that is told and the entries: of one actor, of none, of one that a limit stops, of three of which it stops some, and
+// where both limits are reached.
+const RUNS: [(&str, Option<Spent>, u64); 9] = [
+    (FIRST_SCRIPT, None, 4),
+    ("irqboard 1\ncpus 1\nend\n", None, 0),
     (
         "irqboard 1\ncpus 1\ncalls 2\ncpu0 repeat 3 load fee00030 4\nend\n",
-        Outcome::Spent {
-            spent: Spent::Calls { at: 2 },
-        },
+        Some(Spent::Calls { at: 2 }),
         2,
     ),
     (
         "irqboard 1\ncpus 2\ncalls 3\ncpu0 store fee000f0 4 000001ff\ncpu0 msi fee00000 00000041\ncpu1 store fee000f0 4 000001ff\ncpu1 msi fee00000 00000042\ndev0 tick\nend\n",
-        Outcome::Spent {
-            spent: Spent::Calls { at: 3 },
-        },
+        Some(Spent::Calls { at: 3 }),
         3,
     ),
+    // on a board of one call and no publication: no call is left, and no publication was
     (
         "irqboard 1\ncpus 1\ncalls 1\npublications 0\ncpu0 repeat 2 ack\nend\n",
-        Outcome::Spent {
-            spent: Spent::Calls { at: 1 },
-        },
+        Some(Spent::Calls { at: 1 }),
         1,
     ),
+    // a publication, where a call is left
     (
         "irqboard 1\ncpus 1\ncalls 1\npublications 0\ndev0 watch 3 8\nend\n",
-        Outcome::Spent {
-            spent: Spent::Publications { at: 0 },
-        },
+        Some(Spent::Publications { at: 0 }),
         0,
     ),
+    // a publication, where neither is left
     (
         "irqboard 1\ncpus 1\ncalls 1\npublications 0\ndev0 take 2\ndev0 watch 3 8\nend\n",
-        Outcome::Spent {
-            spent: Spent::Calls { at: 1 },
-        },
+        Some(Spent::Calls { at: 1 }),
         1,
     ),
+    // one that the board refuses is none
+    (
+        "irqboard 1\ncpus 1\ncalls 1\npublications 0\ndev0 watch 3 4096\ndev0 watch 3 8\nend\n",
+        Some(Spent::Calls { at: 1 }),
+        1,
+    ),
+    // two actors are stopped, of which the first is told
     (
         "irqboard 1\ncpus 1\ncalls 1\npublications 0\ncpu0 repeat 2 ack\ndev0 watch 3 8\nend\n",
-        Outcome::Spent {
-            spent: Spent::Calls { at: 1 },
-        },
+        Some(Spent::Calls { at: 1 }),
         1,
     ),
 ];
 
 #[test]
 fn runs_leave_their_boards(rt: HostRuntime) -> Result<(), Fail> {
-    for (script, outcome, entries) in RUNS {
+    for (script, limit, entries) in RUNS {
+        let outcome = match limit {
+            None => Outcome::Fine,
+            Some(spent) => Outcome::Spent { spent },
+        };
         let ran = run(&rt, rt.alloc(), script.as_bytes(), &OpenGate)?;
         assert!(rt; ran == Some((outcome, entries)), "{script}");
     }
