@@ -20,7 +20,7 @@ use Rattle.write_ring.specs.Standing.{IsRight, HoldsQueue, MayEnter, HasEntered}
 
 -- ---- along a history
 
-queue_runs : (s : RingState) (es : List RingEntry) (t : RingState) → Runs IsRingStep s es t → t.queue ≡ queue_from s.queue es
+pub queue_runs : (s : RingState) (es : List RingEntry) (t : RingState) → Runs IsRingStep s es t → t.queue ≡ queue_from s.queue es
 queue_runs s [] t runs = ap (λ (x : RingState). x.queue) runs
 queue_runs s (e ∷ es) t (m, step, more) = queue_runs m es t more ∙ ap (λ q. queue_from q es) step.1
 

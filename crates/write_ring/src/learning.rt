@@ -1,8 +1,8 @@
 //! What was seen goes from pass to pass, and to the desk.
 ghost use Rattle.std.specs.Prelude.{◌≡◌, ◌<◌, ◌≤◌, ◌+◌, ◌-◌, ◌^◌, ◌∷◌, [], ℕ, All};
 ghost use Rattle.turn_book.specs.Histories.{IsPrefix};
-ghost use Rattle.turn_book.specs.Views.{view_of};
-ghost use Rattle.write_ring.specs.Ring.{IsRingHistory};
+ghost use Rattle.turn_book.specs.Views.{view_of, HasOnlyMade};
+ghost use Rattle.write_ring.specs.Ring.{IsRingHistory, pass_of};
 ghost use Rattle.write_ring.specs.Seen.{pass_seen, note_seen, desk_seen, IsPassOf, IsNoteOf, IsDeskOf, entries_by, end_of};
 
 use crate::desk::RingDesk;
@@ -11,7 +11,23 @@ use crate::pass::RingPass;
 use crate::ring::WriteRing;
 
 impl RingDesk {
-    /// A new pass, whose number is that of the passes made before it. It has seen what the desk has seen, and has no entry.
+    // A look at the front: the desk's list is then the history. It has of each pass joined just the entries that the
+    // pass had seen, and none of a pass that was not made.
+    fn look(&mut self, ring: &WriteRing)
+        requires desk { IsDeskOf ring.now self.old }
+        ensures desk { IsDeskOf ring.now self.new }
+        ensures passes { self.new.passes ≡ self.old.passes }
+        ensures seen { IsPrefix (desk_seen self.old) (desk_seen self.new) }
+        ensures legal { IsRingHistory (desk_seen self.new) }
+        ensures ended { (view_of self.new.pen.seat).ended ≡ (view_of self.old.pen.seat).ended }
+        ensures just { All (λ x. entries_by x.caller (desk_seen self.new) ≡ x.entries) (view_of self.new.pen.seat).ended }
+        ensures made { HasOnlyMade pass_of (view_of self.new.pen.seat) }
+    {
+        let _ = ring.book.front(&mut self.pen);
+    }
+
+    /// A new pass, whose number is that of the passes made before it. It has seen what the desk has seen, and has no entry. The passes
+    /// joined stay so, and the desk's list has of each just the entries that it had seen.
     ///
     /// The desk is of this ring, and has made fewer than 2^32 - 1 passes.
     pub fn pass(&mut self, ring: &WriteRing) -> RingPass
@@ -25,9 +41,12 @@ impl RingDesk {
         ensures level { pass_seen result ≡ desk_seen self.new }
         ensures legal { IsRingHistory (pass_seen result) }
         ensures fresh { entries_by result.number (pass_seen result) ≡ [] }
+        ensures ended { (view_of self.new.pen.seat).ended ≡ (view_of self.old.pen.seat).ended }
+        ensures just { All (λ x. entries_by x.caller (desk_seen self.new) ≡ x.entries) (view_of self.new.pen.seat).ended }
+        ensures nobody_else { (n : ℕ) → self.new.passes ≤ n → entries_by n (desk_seen self.new) ≡ [] }
     {
         let number = self.passes;
-        let _ = ring.book.front(&mut self.pen);
+        self.look(ring);
         let pen = ring.book.split(&mut self.pen, Some(number));
         self.passes += 1;
         RingPass { pen, number }

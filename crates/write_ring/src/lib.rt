@@ -13,7 +13,10 @@
 //! - **A call stands once in it**, after all that its pass had seen, with its answer (`IsEntered` of `specs/Seen.antt`; clauses
 //!   `entered` of `WriteRing::put`, `try_put`, `take` and `try_take`). A call that was not answered has no entry (`stopped`,
 //!   `spent`, `own`).
-//! - **What was seen goes from pass to pass**: `WriteRing::note`, `WriteRing::learn` and `RingDesk::join`.
+//! - **What was seen goes from pass to pass**: `WriteRing::note`, `WriteRing::learn` and `RingDesk::join`. The desk's list has of each
+//!   pass joined just the entries that the pass had seen (`ended` and `just` of `RingDesk::join` and `RingDesk::pass`).
+//! - **No write is lost**: along each such list the writes placed are the writes taken, and behind them those that stand
+//!   (`no_write_is_lost`).
 #![tactic(auto)]
 
 mod asked;
@@ -21,6 +24,7 @@ mod attempting;
 mod desk;
 mod entering;
 mod handling;
+mod laws;
 mod learning;
 mod machine;
 mod note;
@@ -34,6 +38,7 @@ mod taking;
 mod write;
 
 pub use desk::RingDesk;
+pub use laws::no_write_is_lost;
 pub use machine::{Ring, RingEntry, RingState};
 pub use note::RingNote;
 pub use pass::RingPass;

@@ -6,12 +6,18 @@ use Rattle.write_ring.proofs.desk.RingDesk.pass.Goals as goal
 
 pub split-pen-requires-clause-fresh : goal.split-pen-requires-clause-fresh
 split-pen-requires-clause-fresh c =
-    let desk = c.args.self.now in
-    ap (is_in desk.passes) (c.front.ensures.place.4 ∙ desk.made) ∙ not_made desk.passes desk.passes (omega arith)
+    let desk = c.look.new.self in
+    ap (is_in c.args.self.now.passes) desk.made ∙ not_made desk.passes c.args.self.now.passes (let same = c.look.ensures.passes in omega arith)
 
 pub returns-clause-fresh : goal.returns-clause-fresh
 returns-clause-fresh c =
-    let desk = c.args.self.now in
-    let place = c.front.ensures.place in
-    ap (λ (v : Seen). entries_by desk.passes v.seen) c.split-pen.ensures.pen
-    ∙ c.front.ensures.made (place.3 ∙ desk.desk) desk.passes (ap (is_in desk.passes) (place.4 ∙ desk.made) ∙ not_made desk.passes desk.passes (omega arith))
+    let desk = c.look.new.self in
+    let n = c.args.self.now.passes in
+    ap (λ (v : Seen). entries_by n v.seen) c.split-pen.ensures.pen
+    ∙ c.look.ensures.made desk.desk n (ap (is_in n) desk.made ∙ not_made desk.passes n (let same = c.look.ensures.passes in omega arith))
+
+pub returns-clause-nobody_else : goal.returns-clause-nobody_else
+returns-clause-nobody_else c = λ n high.
+    let desk = c.look.new.self in
+    ap (λ (v : Seen). entries_by n v.seen) c.split-pen.ensures.kept
+    ∙ c.look.ensures.made desk.desk n (ap (is_in n) desk.made ∙ not_made desk.passes n (omega (arith, high)))
