@@ -1,8 +1,12 @@
 //! What is read of texts: the numbers of a script, and transcripts that are printed again.
+ghost use Rattle.std.specs.Prelude.{◌≡◌, ℕ, Ok, IfSome};
+ghost use Rattle.transcript.specs.Reading.{transcript_of};
+ghost use Rattle.transcript.specs.Text.{text_of};
+
 use irq_base::Shape;
-use script_text::parse;
+use script_text::{ScriptFault, parse};
 use std::alloc::Global;
-use transcript::{print, read};
+use transcript::{Transcript, print, read, texts_are_read, transcripts_fit};
 
 /// A shape of one processor, with the numbers that stand for headers that are left out.
 const DEFAULTS: Shape = Shape {
@@ -114,17 +118,45 @@ const TRANSCRIPTS: [&str; 9] = [
     "transcript 1\n0 cpu60000 ack -> value 5\nend 1\n",
 ];
 
-// Whether the text is read, and printed again.
+// The run as its text is read; none only where memory is short or the text is long.
+fn again(alloc: Global, run: &Transcript, first: u32) -> Option<Transcript>
+    ensures { IfSome result (λ again. again ≡ run.now) }
+{
+    let Ok(text) = print(alloc, run) else {
+        return None;
+    };
+    if text.as_slice().len() > 3000 || first > 1000 {
+        return None;
+    }
+    match read(alloc, text.as_slice(), first) {
+        Ok(again) => Some(again),
+        Err(ScriptFault::NoMemory) => None,
+        Err(ScriptFault::BadLine { .. }) => unreachable!(),
+    }
+}
+
+// The law of texts serves each run.
+fn is_its_text(run: &Transcript)
+    ensures { (first : ℕ) → transcript_of first (text_of run.now) ≡ Ok run.now }
+{
+    transcripts_fit(run);
+    texts_are_read();
+}
+
+// Whether the text is read, printed again, and then read again.
 fn is_read(alloc: Global, text: &str) -> bool {
     let bytes = text.as_bytes();
     if bytes.len() > 3000 {
         return false;
     }
     match read(alloc, bytes, 1) {
-        Ok(run) => match print(alloc, &run) {
-            Ok(printed) => printed.as_slice() == bytes,
-            Err(_) => false,
-        },
+        Ok(run) => {
+            is_its_text(&run);
+            match print(alloc, &run) {
+                Ok(printed) => printed.as_slice() == bytes && again(alloc, &run, 7).is_some(),
+                Err(_) => false,
+            }
+        }
         Err(_) => false,
     }
 }

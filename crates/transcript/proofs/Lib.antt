@@ -5,3 +5,4 @@ mod Wholes
 mod FieldsAgain
 mod LinesAgain
 mod TextsAgain
+mod Sets

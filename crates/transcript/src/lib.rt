@@ -3,6 +3,7 @@
 
 mod arrow;
 mod fields;
+mod fitting;
 mod happenings;
 mod laws;
 mod printing;
@@ -11,6 +12,7 @@ mod replies;
 mod spelled;
 mod transcript;
 
+pub use fitting::transcripts_fit;
 pub use laws::texts_are_read;
 pub use printing::{print, push_event};
 pub use reading::{Stage, read};

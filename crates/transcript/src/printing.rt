@@ -1,8 +1,11 @@
 //! Transcripts as texts.
-ghost use Rattle.std.specs.Prelude.{◌≡◌, ◌++◌, OnOk, IfOk};
+ghost use Rattle.std.specs.Prelude.{◌≡◌, ℕ, ◌++◌, Ok, OnOk, IfOk};
 ghost use Rattle.std.specs.String.{string_bytes};
+ghost use Rattle.transcript.specs.Reading.{transcript_of};
 ghost use Rattle.transcript.specs.Text.{event_line, entry_line, ending_line, events_text, entry_text, entries_text, text_of};
 
+use crate::fitting::transcripts_fit;
+use crate::laws::texts_are_read;
 use crate::replies::{len_of, push_reply};
 use crate::transcript::Transcript;
 use irq_base::{Bytes, Entry, Event, EventList, History, NoMemory};
@@ -83,10 +86,13 @@ fn text_of(alloc: Global, run: &Transcript) -> Result<String, AllocError>
 }
 
 /// The text of a run: the line `transcript 1`, each entry with its place, its caller, its call and its reply, each event on
-/// a line of its own behind its entry, and a last line with the number of entries.
+/// a line of its own behind its entry, and a last line with the number of entries. What is printed is read as that run.
 pub fn print(alloc: Global, run: &Transcript) -> Result<Bytes, NoMemory>
     ensures text { IfOk result (λ bytes. bytes ≡ text_of run.now) }
+    ensures read { IfOk result (λ bytes. (first : ℕ) → transcript_of first bytes ≡ Ok run.now) }
 {
+    transcripts_fit(run);
+    texts_are_read();
     match text_of(alloc, run) {
         Ok(text) => Ok(Bytes::of(text.into_bytes())),
         Err(_) => Err(NoMemory),
