@@ -11,9 +11,9 @@ use Rattle.board_laws.specs.Lawful.{LegalHistoriesKeepTheLaws}
 use Rattle.replaying.specs.Replays.{Replays}
 use Rattle.legal_check.specs.declared.verdict.Verdict.{Verdict}
 use Rattle.legal_check.specs.declared.verdict.Verdict.TheVariants.{Legal, NotAt}
-use Rattle.legal_check.specs.Verdicts.{IsVerdict}
+use Rattle.legal_check.specs.Verdicts.{IsVerdict, KeepsIfLegal}
 use Rattle.irqboard.specs.Parting.{script_part, transcript_part, transcript_line, both_read}
-use Rattle.irqboard.specs.Works.{IsReplay, IsCheck, KeepsIfLegal, verdict_text, Works}
+use Rattle.irqboard.specs.Works.{IsReplay, IsCheck, verdict_text, Works}
 use Rattle.irqboard.specs.Done.{answer_of_replay, answer_of_check}
 use Rattle.irqboard.specs.declared.command.Command.TheVariants.{Replay, Check}
 
@@ -40,21 +40,17 @@ replay_done input s history spent ends text lawful reads replays ends_so written
     by (Some limit) d = d
 
 pub check_done : (input : List ℕ) (s : Script) (run : Transcript) (verdict : Verdict) (text : List ℕ)
-    → LegalHistoriesKeepTheLaws → script_of (script_part input) ≡ Ok s → transcript_of (transcript_line input) (transcript_part input) ≡ Ok run
-    → IsVerdict s run verdict → text ≡ verdict_text verdict → Works Check input (answer_of_check verdict) text
-check_done input s run verdict text lawful script transcript judged written = by verdict done
+    → script_of (script_part input) ≡ Ok s → transcript_of (transcript_line input) (transcript_part input) ≡ Ok run
+    → IsVerdict s run verdict → KeepsIfLegal verdict s.shape run.history → text ≡ verdict_text verdict → Works Check input (answer_of_check verdict) text
+check_done input s run verdict text script transcript judged laws written = by verdict done
   where
-    keeps : (v : Verdict) → IsVerdict s run v → KeepsIfLegal v s.shape run.history
-    keeps Legal fits = lawful s.shape run.history (fits.board, fits.stand.legal)
-    keeps (NotAt at flaw) is = tt
-
     done : IsCheck input verdict text
     done = record {
       script = s;
       run = run;
       reads = (λ i. both_read (script i) (transcript i));
       judged = judged;
-      laws = keeps verdict judged;
+      laws = laws;
       written = written;
     }
 

@@ -5,7 +5,6 @@ use Rattle.std.specs.Fmt.{decimal}
 use Rattle.irq_base.specs.declared.fault.LineCause.{LineCause}
 use Rattle.irq_base.specs.declared.lists.Entry.{Entry}
 use Rattle.irq_base.specs.declared.reply.Spent.{Spent as Limit}
-use Rattle.irq_base.specs.declared.shape.Shape.{Shape}
 use Rattle.script_text.specs.Scripts.{Script, script_of}
 use Rattle.transcript.specs.declared.transcript.Transcript.{Transcript}
 use Rattle.transcript.specs.Text.{text_of}
@@ -15,7 +14,7 @@ use Rattle.legal_check.specs.declared.verdict.Flaw.{Flaw}
 use Rattle.legal_check.specs.declared.verdict.Flaw.TheVariants.{Asked, Reply, Ending}
 use Rattle.legal_check.specs.declared.verdict.Verdict.{Verdict}
 use Rattle.legal_check.specs.declared.verdict.Verdict.TheVariants.{Legal, NotAt}
-use Rattle.legal_check.specs.Verdicts.{IsVerdict}
+use Rattle.legal_check.specs.Verdicts.{IsVerdict, KeepsIfLegal}
 use Rattle.irqboard.specs.Parting.{script_and_transcript}
 use Rattle.irqboard.specs.Runs.{IsLiveRun}
 use Rattle.irqboard.specs.declared.live.Live.{Live}
@@ -54,11 +53,6 @@ flaw_text Ending = codes "ending"
 abbrev pub verdict_text : Verdict → List ℕ
 verdict_text Legal = codes "legal\n"
 verdict_text (NotAt at flaw) = codes "not legal at " ++ (decimal at ++ (codes ": " ++ (flaw_text flaw ++ codes "\n")))
-
--- a history that is said to be legal keeps all laws
-abbrev pub KeepsIfLegal : Verdict → Shape → List Entry → Type 0
-KeepsIfLegal Legal shape history = KeepsTheLaws shape history
-KeepsIfLegal (NotAt at flaw) shape history = Unit {0}
 
 -- the input is a script and a transcript, and the text is that of the verdict on them
 pub record IsCheck (input : List ℕ) (verdict : Verdict) (text : List ℕ) : Type 0 where

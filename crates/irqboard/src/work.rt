@@ -102,7 +102,6 @@ fn checked(alloc: Global, input: &[u8]) -> Result<Work, ScriptFault>
     ensures done { IfOk result (λ work. Works Command.Check input.now work.outcome work.text) }
     ensures fault { IfErr result (HasFault Command.Check input.now) }
 {
-    legal_histories_keep_the_laws();
     let (script, transcript, line) = parted(input);
     let script = match parse(alloc, script) {
         Ok(script) => script,

@@ -2,3 +2,4 @@ mod Known
 mod Ended
 mod Tried
 mod One
+mod Lawful

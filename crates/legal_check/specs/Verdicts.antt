@@ -1,6 +1,8 @@
 -- The verdict on a transcript: legal, or the first entry, or else the ending, that has a flaw (this board's own rule).
 use Rattle.std.specs.Prelude.{◌≡◌, ℕ, List, take, length, slice_get, Some}
 use Rattle.irq_base.specs.declared.lists.Entry.{Entry}
+use Rattle.irq_base.specs.declared.shape.Shape.{Shape}
+use Rattle.board_laws.specs.Lawful.{KeepsTheLaws}
 use Rattle.board_model.specs.Board.{Board}
 use Rattle.board_step.specs.Applied.{LeadsOn}
 use Rattle.script_text.specs.Scripts.{Script}
@@ -44,6 +46,11 @@ pub record FlawAt (s : Script) (run : Transcript) (place : ℕ) (flaw : Flaw) : 
 abbrev pub IsVerdict : Script → Transcript → Verdict → Type 0
 IsVerdict s run Legal = Fits s run
 IsVerdict s run (NotAt place flaw) = FlawAt s run place flaw
+
+-- a history that is said to be legal keeps all laws
+abbrev pub KeepsIfLegal : Verdict → Shape → List Entry → Type 0
+KeepsIfLegal Legal shape history = KeepsTheLaws shape history
+KeepsIfLegal (NotAt place flaw) shape history = Unit {0}
 
 -- a transcript has one verdict
 abbrev pub HasOneVerdict : Type 0

@@ -6,11 +6,12 @@ ghost use Rattle.board_step.specs.Applied.{LeadsOn};
 ghost use Rattle.board_step.specs.Step.{Step};
 ghost use Rattle.legal_check.specs.declared.verdict.Verdict.TheVariants as verdicts;
 ghost use Rattle.legal_check.specs.Standing.{actors_in, HaveFollowed, GoesOn};
-ghost use Rattle.legal_check.specs.Verdicts.{HasFlaw, IsVerdict};
+ghost use Rattle.legal_check.specs.Verdicts.{HasFlaw, IsVerdict, KeepsIfLegal};
 
 use crate::actors::{asked, follow, started};
 use crate::ending::ends_well;
 use crate::verdict::{Flaw, Verdict};
+use board_laws::legal_histories_keep_the_laws;
 use board_step::{Board, OpenError, steps_keep_the_frame};
 use irq_base::{Entry, NoMemory};
 use script_text::{Progress, Script};
@@ -58,8 +59,8 @@ fn not_at(place: usize, cause: Flaw) -> Verdict
     }
 }
 
-/// The verdict on a transcript: its entries are tried in their order, on a board of the script's shape, and then its ending.
-pub fn check(alloc: Global, script: &Script, run: &Transcript) -> Result<Verdict, NoMemory>
+// The verdict on a transcript: its entries are tried in their order, on a board of the script's shape, and then its ending.
+fn judge(alloc: Global, script: &Script, run: &Transcript) -> Result<Verdict, NoMemory>
     ensures { IfOk result (IsVerdict script.now run.now) }
 {
     steps_keep_the_frame();
@@ -91,4 +92,15 @@ pub fn check(alloc: Global, script: &Script, run: &Transcript) -> Result<Verdict
     } else {
         Ok(not_at(run.history.len(), Flaw::Ending))
     }
+}
+
+/// The verdict on a transcript: its entries are tried in their order, on a board of the script's shape, and then its ending. A history that
+/// is said to be legal keeps all laws.
+#[tactic(auto, using(crate::proofs::Lawful::kept_rules))]
+pub fn check(alloc: Global, script: &Script, run: &Transcript) -> Result<Verdict, NoMemory>
+    ensures verdict { IfOk result (IsVerdict script.now run.now) }
+    ensures laws { IfOk result (λ verdict. KeepsIfLegal verdict script.now.shape run.now.history) }
+{
+    legal_histories_keep_the_laws();
+    judge(alloc, script, run)
 }

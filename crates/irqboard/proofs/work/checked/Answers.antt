@@ -15,7 +15,7 @@ returns-in-Ok-line_of-clause-done c =
     let transcript : transcript_of (transcript_line input) (transcript_part input) ≡ Ok c.in-Ok-read.run' =
     (λ i. transcript_of (sym at.line i) (sym at.transcript i)) ∙ c.in-Ok-read.ensures.read in
     let done =
-    check_done input c.in-Ok.script c.in-Ok-read.run' c.in-Ok-check.verdict c.in-Ok-line_of.text c.legal_histories_keep_the_laws.ensures script transcript
-    c.in-Ok-check.ensures c.in-Ok-line_of.ensures
+    check_done input c.in-Ok.script c.in-Ok-read.run' c.in-Ok-check.verdict c.in-Ok-line_of.text script transcript
+    c.in-Ok-check.ensures.verdict c.in-Ok-check.ensures.laws c.in-Ok-line_of.ensures
     in
     subst (λ o. Works Check input o c.in-Ok-line_of.text) (sym c.answer_of_check.ensures) done

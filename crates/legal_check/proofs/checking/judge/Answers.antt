@@ -5,7 +5,7 @@ use Rattle.legal_check.specs.declared.verdict.Verdict.{Verdict}
 use Rattle.legal_check.specs.Verdicts.{IsVerdict}
 use Rattle.legal_check.specs.Standing.{HaveFollowed}
 use Rattle.legal_check.proofs.Tried.{Running, goes, flawed, fits, ends-badly, written_back, true-false}
-use Rattle.legal_check.proofs.checking.check.Goals as goal
+use Rattle.legal_check.proofs.checking.judge.Goals as goal
 
 pub returns-in-Some : goal.returns-in-Some
 returns-in-Some c =
