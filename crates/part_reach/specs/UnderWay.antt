@@ -73,7 +73,8 @@ pub record LooksAgain (v w : Seen) (more : List ℕ) (next : Front) : Type 0 whe
 -- how many words and turns can be wanted still: a word that is read leaves one less, so does a turn that is won, and a publication
 -- of another makes each word unread
 abbrev pub wants_left : Front → List ℕ → Known → ℕ
-wants_left had places known = (MAX_PLACES - length places) + (2 ^ 20 - had.generation) * (WORDS + 1) + blanks_under had.generation known.places.items
+wants_left had places known =
+    (MAX_PLACES - length places) + (2 ^ 20 - had.generation) * (WORDS + 1) + blanks_under had.generation known.places.items
 
 -- what an attempt came to
 pub record CameTo (shape : Shape) (caller : Caller) (call : Call) (u w : Seen) (answer : Answer) (events : List Event) : Type 0 where

@@ -4,6 +4,7 @@ ghost use Rattle.turn_book.specs.declared.view.Note.{Note};
 ghost use Rattle.turn_book.specs.Views.{view_of};
 ghost use Rattle.part_rig.specs.Readings.{AreNoted, AreOf, PinsFit, read_at};
 ghost use Rattle.part_rig.specs.Noted.{published_in, noted_by, is_index, is_blank};
+ghost use Rattle.board_model.specs.declared.width.TheConstants.{WORDS};
 
 use crate::reading::Reading;
 use board_model::WORDS;
