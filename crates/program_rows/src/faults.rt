@@ -69,7 +69,7 @@ fn each_failing_write_is_a_fault_behind_a_front(rt: HostRuntime) -> Result<(), F
         for k in 0..writes {
             let came = came(&rt, rt.alloc(), line, behind, 1000, NEVER, k)?;
             assert!(rt;
-                is(&came, Outcome::WriteFault, text, 5 * k),
+                is(&came, Outcome::WriteFault, text, k.saturating_mul(5)),
                 "{line}, write {k}"
             );
         }
