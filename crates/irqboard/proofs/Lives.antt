@@ -12,7 +12,7 @@ use Rattle.live_runs.specs.Made.{HasLearnt, HasMadeJust}
 use Rattle.live_runs.specs.Running.{IsRun}
 use Rattle.irqboard.specs.Benches.{WorksLive}
 use Rattle.irqboard.specs.Done.{answer_of_replay}
-use Rattle.irqboard.specs.Runs.{RanOn, IsLiveRun}
+use Rattle.irqboard.specs.Runs.{RanOn, IsLiveRun, RanInPart}
 use Rattle.irqboard.specs.Answers.{JudgesRightly, WritesRightly, IsAnswered}
 use Rattle.irqboard.specs.Output.{AppendsPart}
 use Rattle.irqboard.specs.Works.{Works}
@@ -53,6 +53,34 @@ some_run live input NoMemory text d = d
 some_run live input (TooLong bytes) text d = d
 some_run live input (NotLegal at flaw) text d = d
 some_run live input (Spent limit) text d = record { live = live; run = d }
+
+-- a limit stopped an actor, or none did
+some_limit : (live : Live) (input : List ℕ) (outcome : Outcome) (text : List ℕ) → WorksLive live input outcome text → (spent : Option Limit) × IsLiveRun live input spent text
+some_limit live input Fine text d = (None, d)
+some_limit live input Usage text d = absurd d
+some_limit live input (BadInput line cause) text d = absurd d
+some_limit live input ReadFault text d = absurd d
+some_limit live input WriteFault text d = absurd d
+some_limit live input NoMemory text d = absurd d
+some_limit live input (TooLong bytes) text d = absurd d
+some_limit live input (NotLegal at flaw) text d = absurd d
+some_limit live input (Spent limit) text d = (Some limit, d)
+
+-- a front of the text of the run was written
+pub ran_in_part : (live : Live) (left left' held holds : Option (List ℕ)) (bytes input text written : List ℕ) (outcome : Outcome)
+    → Consumes left left' bytes → IsAtEnd left' → input ≡ bytes → WorksLive live input outcome text → written ≡ text → AppendsPart held holds written
+    → RanInPart live left left' held holds
+ran_in_part live left left' held holds bytes input text written outcome read end same works is front = record {
+  input = input;
+  spent = (some_limit live input outcome text works).0;
+  text = text;
+  read = subst (λ (bs : List ℕ). Consumes left left' bs) (sym same) read;
+  end = end;
+  run = (some_limit live input outcome text works).1;
+  front = subst (λ (t : List ℕ). AppendsPart held holds t) is front;
+}
+
+pub ruleset front_rules = (ran_in_part)
 
 -- a desk and passes that are these have made what these have
 pub made_there : (there desk : Desk) (passes' passes : List Pass) → there ≡ desk → passes' ≡ passes → HasMadeJust desk passes → HasMadeJust there passes'

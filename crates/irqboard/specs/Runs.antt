@@ -9,6 +9,7 @@ use Rattle.transcript.specs.Text.{text_of}
 use Rattle.replaying.specs.Replays.{run_of}
 use Rattle.live_runs.specs.Made.{AreOfActors, HasLearnt, HasMadeJust, seen_by_first}
 use Rattle.live_runs.specs.Running.{IsRun}
+use Rattle.irqboard.specs.Output.{AppendsPart}
 use Rattle.irqboard.specs.declared.live.Live.{Live}
 
 -- A script ran on this running board. The board has the script's shape. Its passes are one an actor, in order, and no other pass of it
@@ -40,3 +41,14 @@ pub record Ran (live : Live) (left left' held holds : Option (List ℕ)) (spent 
   pub end : IsAtEnd left'
   pub run : IsLiveRun live input spent text
   pub wrote : Appends held holds text
+
+-- The whole input was read and its script ran on that board, and then the sink failed: of the transcript of the run a front was written that
+-- is not all of it
+pub record RanInPart (live : Live) (left left' held holds : Option (List ℕ)) : Type 0 where
+  pub input : List ℕ
+  pub spent : Option Limit
+  pub text : List ℕ
+  pub read : Consumes left left' input
+  pub end : IsAtEnd left'
+  pub run : IsLiveRun live input spent text
+  pub front : AppendsPart held holds text
