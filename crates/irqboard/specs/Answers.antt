@@ -8,6 +8,7 @@ use Rattle.irq_base.specs.Text.{line_cause_text}
 use Rattle.irqboard.specs.Input.{IsBeyond, HasRead}
 use Rattle.irqboard.specs.Works.{Works, HasBadLine, IsInGrammar}
 use Rattle.irqboard.specs.declared.command.Command.{Command}
+use Rattle.irqboard.specs.declared.usage.TheConstants.{USAGE}
 use Rattle.irqboard.specs.declared.outcome.Outcome.{Outcome}
 use Rattle.irqboard.specs.declared.outcome.Outcome.TheVariants.{Fine, Usage, BadInput, ReadFault, WriteFault, NoMemory, TooLong, NotLegal, Spent}
 
@@ -31,7 +32,7 @@ limit_text (Publications at) = decimal at ++ codes " publications"
 -- the line for standard error, without its line feed; empty where there is none
 abbrev pub message_of : Outcome → List ℕ
 message_of Fine = []
-message_of Usage = codes "usage: irqboard replay | run | check | gen START LINES CPUS | sum START LINES CPUS"
+message_of Usage = USAGE
 message_of (BadInput line cause) = codes "line " ++ (decimal line ++ (codes ": " ++ line_cause_text cause))
 message_of ReadFault = codes "read fault"
 message_of WriteFault = codes "write fault"

@@ -1,41 +1,30 @@
-//! The words that ask for a text of three numbers.
+//! The words that make a text out of their numbers.
 ghost use Rattle.std.specs.Prelude.{◌≡◌, ◌≤◌, IfSome};
 ghost use Rattle.workload_gen.specs.Laws.{IsInRange};
-ghost use Rattle.irqboard.specs.Making.{product_of, number_in, making_of};
+ghost use Rattle.irqboard.specs.Making.{number_in, storm_of, making_of, CanBeMade};
 
 use io_edge::Word;
+use irq_base::MAX_CPUS;
 use script_text::number64;
 
-/// What is made of three numbers.
+/// The three numbers of a generated script.
 #[derive(Clone, Copy, Debug, PartialEq, Eq)]
-pub enum Product {
-    /// The generated script.
-    Workload,
-    /// The eight lines that its replay counts.
-    Summary,
-}
-
-/// What the words ask to be made, and its three numbers: where the draws start, how many lines are drawn, and how many processors
-/// there are.
-#[derive(Clone, Copy, Debug, PartialEq, Eq)]
-pub struct Making {
-    pub product: Product,
+pub struct Storm {
+    /// Where the draws start.
     pub start: u64,
+    /// How many lines are drawn, at most 400,000.
     pub lines: u32,
+    /// How many processors there are, 1 to `MAX_CPUS`.
     pub cpus: u16,
 }
 
-// The product that a word names, if it names one.
-fn product_of(word: &Word) -> Option<Product>
-    ensures { result ≡ product_of word.now }
-{
-    if word.bytes() == b"gen".as_slice() {
-        Some(Product::Workload)
-    } else if word.bytes() == b"sum".as_slice() {
-        Some(Product::Summary)
-    } else {
-        None
-    }
+/// A word that makes a text out of its numbers, with these numbers. Its text is a function of them, and it reads nothing.
+#[derive(Clone, Copy, Debug, PartialEq, Eq)]
+pub enum Making {
+    /// `gen START LINES CPUS`: the generated script.
+    Gen(Storm),
+    /// `sum START LINES CPUS`: the eight lines that the replay of the generated script counts.
+    Sum(Storm),
 }
 
 // The decimal number of a range that a word is, if it is one.
@@ -55,20 +44,18 @@ fn number_in(least: u64, most: u64, word: &Word) -> Option<u64>
     }
 }
 
-/// What these words ask to be made, if they ask for that.
-pub fn making_of(words: &[Word]) -> Option<Making>
-    ensures words { result ≡ making_of words.now }
-    ensures range { IfSome result (λ m. IsInRange m.lines m.cpus) }
+// The three numbers of a generated script that these words are, if they are such.
+fn storm_of(numbers: &[Word]) -> Option<Storm>
+    ensures words { result ≡ storm_of numbers.now }
+    ensures range { IfSome result (λ storm. IsInRange storm.lines storm.cpus) }
 {
-    match words {
-        [word, start, lines, cpus] => {
-            let product = product_of(word);
+    match numbers {
+        [start, lines, cpus] => {
             let start = number_in(0, u64::MAX, start);
             let lines = number_in(0, 400_000, lines);
-            let cpus = number_in(1, 64, cpus);
-            match (product, start, lines, cpus) {
-                (Some(product), Some(start), Some(lines), Some(cpus)) => Some(Making {
-                    product,
+            let cpus = number_in(1, MAX_CPUS as u64, cpus);
+            match (start, lines, cpus) {
+                (Some(start), Some(lines), Some(cpus)) => Some(Storm {
                     start,
                     lines: lines as u32,
                     cpus: cpus as u16,
@@ -77,5 +64,24 @@ pub fn making_of(words: &[Word]) -> Option<Making>
             }
         }
         _ => None,
+    }
+}
+
+/// What these words ask to be made, if they ask for that.
+pub fn making_of(words: &[Word]) -> Option<Making>
+    ensures words { result ≡ making_of words.now }
+    ensures range { IfSome result CanBeMade }
+{
+    match words {
+        [word, numbers @ ..] => {
+            if word.bytes() == b"gen".as_slice() {
+                Some(Making::Gen(storm_of(numbers)?))
+            } else if word.bytes() == b"sum".as_slice() {
+                Some(Making::Sum(storm_of(numbers)?))
+            } else {
+                None
+            }
+        }
+        [] => None,
     }
 }

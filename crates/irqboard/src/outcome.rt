@@ -3,15 +3,12 @@ ghost use Rattle.std.specs.Prelude.{◌≡◌, ◌<◌, ◌≤◌, ◌++◌, [],
 ghost use Rattle.irq_base.specs.Text.{line_cause_text};
 ghost use Rattle.irqboard.specs.Answers.{status_of, message_of, said_of, limit_text};
 
+use crate::usage::USAGE;
 use arrayvec::ArrayString;
 use irq_base::{LineCause, Spent};
 use itoa::Buffer;
 use legal_check::Flaw;
 use std::fmt;
-
-// The words that the program is to have.
-const USAGE: &str =
-    "usage: irqboard replay | run | check | gen START LINES CPUS | sum START LINES CPUS";
 
 /// The room for a line on standard error.
 pub const LINE_ROOM: usize = 256;

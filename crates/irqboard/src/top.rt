@@ -5,14 +5,12 @@ ghost use Rattle.irqboard.specs.Commands.{command_of};
 ghost use Rattle.irqboard.specs.Answers.{ReadsRightly, JudgesRightly, WritesRightly, KeepsSilent, IsGood, IsAnswered};
 ghost use Rattle.irqboard.specs.Benches.{LeavesRun};
 ghost use Rattle.irqboard.specs.Making.{making_of, AreNone, IsMade, MakesRightly};
-ghost use Rattle.workload_gen.specs.Laws.{IsInRange};
-ghost use Rattle.workload_gen.specs.Text.{workload_text};
-ghost use Rattle.workload_sum.specs.Summary.{IsSummary};
 
 use crate::bench::Bench;
 use crate::command::{Command, command_of};
 use crate::live_top::run_text;
-use crate::making::{Making, Product, making_of};
+use crate::made::make_text;
+use crate::making::making_of;
 use crate::outcome::Outcome;
 use crate::reading::{Stop, read_whole};
 use crate::work::work_of;
@@ -22,8 +20,6 @@ use script_text::ScriptFault;
 use std::alloc::Global;
 use std::sync::Wait;
 use std::thread::Threads;
-use workload_gen::generate;
-use workload_sum::sum;
 
 // Reads the whole input, does the work of `replay` or `check` on it, and writes the text of the work.
 fn run<S: Source, K: Sink>(alloc: Global, command: Command, source: &mut S, sink: &mut K) -> Outcome
@@ -99,59 +95,6 @@ pub fn check_text<S: Source, K: Sink>(alloc: Global, source: &mut S, sink: &mut 
     run(alloc, Command::Check, source, sink)
 }
 
-/// Writes the generated script of three numbers: where the draws start, how many lines are drawn, and how many processors there are. Where
-/// the sink does not fail, it answers `Fine` or want of memory.
-pub fn gen_text<K: Sink>(alloc: Global, start: u64, lines: u32, cpus: u16, sink: &mut K) -> Outcome
-    requires { IsInRange lines cpus }
-    ensures output { MakesRightly (λ text. text ≡ workload_text start lines cpus) (K.holds sink.old) (K.holds sink.new) result }
-    ensures write_fault { result ≡ Outcome.WriteFault → Rose (K.faults sink.old) (K.faults sink.new) }
-    ensures sink_faults { result ≢ Outcome.WriteFault → K.faults sink.new ≡ K.faults sink.old }
-{
-    let Ok(text) = generate(alloc, start, lines, cpus) else {
-        return Outcome::NoMemory;
-    };
-    match write_whole(sink, text.as_slice()) {
-        Ok(()) => Outcome::Fine,
-        Err(_) => Outcome::WriteFault,
-    }
-}
-
-/// Replays the generated script of three numbers, and writes the eight lines of its summary, which is a function of these numbers. Where the
-/// sink does not fail, it answers `Fine` or want of memory.
-pub fn sum_text<K: Sink>(alloc: Global, start: u64, lines: u32, cpus: u16, sink: &mut K) -> Outcome
-    requires { IsInRange lines cpus }
-    ensures output { MakesRightly (IsSummary start lines cpus) (K.holds sink.old) (K.holds sink.new) result }
-    ensures write_fault { result ≡ Outcome.WriteFault → Rose (K.faults sink.old) (K.faults sink.new) }
-    ensures sink_faults { result ≢ Outcome.WriteFault → K.faults sink.new ≡ K.faults sink.old }
-{
-    let Ok(text) = sum(alloc, start, lines, cpus) else {
-        return Outcome::NoMemory;
-    };
-    match write_whole(sink, text.as_slice()) {
-        Ok(()) => Outcome::Fine,
-        Err(_) => Outcome::WriteFault,
-    }
-}
-
-// Makes and writes what is asked for.
-fn made<K: Sink>(alloc: Global, making: Making, sink: &mut K) -> Outcome
-    requires { IsInRange making.lines making.cpus }
-    ensures output { MakesRightly (IsMade making) (K.holds sink.old) (K.holds sink.new) result }
-    ensures write_fault { result ≡ Outcome.WriteFault → Rose (K.faults sink.old) (K.faults sink.new) }
-    ensures sink_faults { result ≢ Outcome.WriteFault → K.faults sink.new ≡ K.faults sink.old }
-{
-    let Making {
-        product,
-        start,
-        lines,
-        cpus,
-    } = making;
-    match product {
-        Product::Workload => gen_text(alloc, start, lines, cpus, sink),
-        Product::Summary => sum_text(alloc, start, lines, cpus, sink),
-    }
-}
-
 /// All that the program does: the word `replay` alone replays a script, the word `run` alone runs its actors side by side on a running
 /// board, the word `check` alone checks a transcript, `gen` with three numbers writes a generated script and `sum` with three numbers its
 /// summary, and any other words are refused. `gen` and `sum` read nothing.
@@ -193,7 +136,7 @@ pub fn irqboard<R: Threads + Wait + Sync, S: Source, K: Sink, G: Gate>(
         Some(Command::Run) => run_text(rt, alloc, source, sink, gate, bench),
         Some(Command::Check) => check_text(alloc, source, sink),
         None => match making_of(words) {
-            Some(making) => made(alloc, making, sink),
+            Some(making) => make_text(alloc, making, sink),
             None => Outcome::Usage,
         },
     }

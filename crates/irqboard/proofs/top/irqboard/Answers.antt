@@ -8,7 +8,7 @@ use Rattle.irqboard.proofs.top.irqboard.Goals as goal
 
 pub returns-in-Some-clause-length : goal.returns-in-Some-clause-length
 returns-in-Some-clause-length g c =
-    unread (IsMade c.in-Some.making) (g.S.Source.left c.args.source.now) (g.K.Sink.holds c.args.sink.now) (g.K.Sink.holds c.made.new.sink) c.made.result c.made.ensures.output
+    unread (IsMade c.in-Some.making) (g.S.Source.left c.args.source.now) (g.K.Sink.holds c.args.sink.now) (g.K.Sink.holds c.make_text.new.sink) c.make_text.result c.make_text.ensures.output
 
 pub returns-in-Some-Run-clause-complete : goal.returns-in-Some-Run-clause-complete
 returns-in-Some-Run-clause-complete g c =
