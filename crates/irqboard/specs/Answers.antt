@@ -32,7 +32,7 @@ limit_text (Publications at) = decimal at ++ codes " publications"
 -- the line for standard error, without its line feed; empty where there is none
 abbrev pub message_of : Outcome → List ℕ
 message_of Fine = []
-message_of Usage = USAGE
+message_of Usage = USAGE.now
 message_of (BadInput line cause) = codes "line " ++ (decimal line ++ (codes ": " ++ line_cause_text cause))
 message_of ReadFault = codes "read fault"
 message_of WriteFault = codes "write fault"
