@@ -80,8 +80,6 @@ ran_in_part live left left' held holds bytes input text written outcome read end
   front = subst (λ (t : List ℕ). AppendsPart held holds t) is front;
 }
 
-pub ruleset front_rules = (ran_in_part)
-
 -- a desk and passes that are these have made what these have
 pub made_there : (there desk : Desk) (passes' passes : List Pass) → there ≡ desk → passes' ≡ passes → HasMadeJust desk passes → HasMadeJust there passes'
 made_there there desk passes' passes same_desk same_passes made =

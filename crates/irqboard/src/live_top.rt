@@ -19,7 +19,6 @@ use std::thread::Threads;
 /// Reads a script, runs it on a running board, a thread an actor, and writes the transcript of the run. It first reads the whole
 /// input, then judges its lines, then runs them, then writes the text. Where the whole text was written, or a front of it before the sink
 /// failed, the board on which the script ran stands on the bench, with its desk and a pass for each actor. That it returns is not promised.
-#[tactic(auto, using(crate::proofs::Lives::front_rules))]
 pub fn run_text<R: Threads + Wait + Sync, S: Source, K: Sink, G: Gate>(
     rt: &R,
     alloc: Global,
