@@ -3,23 +3,14 @@ ghost use Rattle.std.specs.Prelude.{◌≤◌};
 
 use crate::meter::Meter;
 use irq_base::{Events, Spent, Stops};
-use pit_8254::{CHANNEL_PORT, CONTROL_PORT, Pit, PitOp, PitSpent};
+use pit_8254::{CHANNEL_PORT, CONTROL_PORT, Pit, PitSpent};
 
 // Sets a channel to count 4 in mode 2, with a next count 6.
-const SET: [PitOp; 3] = [
-    PitOp::Write {
-        port: CONTROL_PORT,
-        value: 0x14,
-    },
-    PitOp::Write {
-        port: CHANNEL_PORT,
-        value: 4,
-    },
-    PitOp::Write {
-        port: CHANNEL_PORT,
-        value: 6,
-    },
-];
+fn set(pit: &mut Pit) {
+    pit.write(CONTROL_PORT, 0x14);
+    pit.write(CHANNEL_PORT, 4);
+    pit.write(CHANNEL_PORT, 6);
+}
 
 // What an advance answers over a face that answers so many calls, and what the channel shows then.
 fn advanced(pit: &mut Pit, clocks: u64, calls: u64) -> (Result<u64, PitSpent>, u8, Stops)
@@ -45,10 +36,8 @@ fn barred(ticks: u64) -> (Result<u64, PitSpent>, u8, Stops) {
 // next clock that is answered.
 #[test]
 fn a_limit_bars_a_tick(rt: HostRuntime) {
-    let mut events = Events::new();
     let mut pit = Pit::power_on();
-    let set = pit.perform(&SET, &mut Meter::of(0), &mut events);
-    assert!(rt; set == Ok(()));
+    set(&mut pit);
     assert_eq!(rt; advanced(&mut pit, 100, 2), barred(2));
     assert_eq!(rt; advanced(&mut pit, 1, 0), barred(0));
     assert_eq!(rt; advanced(&mut pit, 1, 1), (Ok(1), 6, Stops::none()));

@@ -1,12 +1,12 @@
 -- Calls that a face answers one after another are told together.
-use Rattle.std.proofs.Common.{◌≡◌, ℕ, ◌+◌, ◌<◌, ◌≤◌, Bool, true, false, ◌&&◌, not, nat_lt, nat_eq, List, [], ◌∷◌, ◌++◌, length, All, Some, None, Ok, Err, IfSome, IsOk, refl, sym, ap, ◌∙◌, subst, arith, append_assoc, length-append}
+use Rattle.std.proofs.Common.{◌≡◌, ℕ, ◌+◌, ◌<◌, ◌≤◌, Bool, true, false, ◌&&◌, not, nat_lt, nat_eq, List, [], ◌∷◌, ◌++◌, length, All, Some, None, Ok, Err, OnErr, IfSome, IsOk, refl, sym, ap, ◌∙◌, subst, arith, append_assoc, length-append}
 use Rattle.std.proofs.lemmas.Grind.{flat_map-append}
 use Rattle.std.proofs.lemmas.List.{append-nil}
 use Rattle.std.proofs.lemmas.List.Elements.{All-nil, All-cons, All-append}
 use Rattle.std.specs.declared.option.Option.{Option}
 use Rattle.std.specs.declared.result.Result.{Result}
 use Rattle.irq_base.specs.Callers.{is_allowed, is_there, is_of_processor}
-use Rattle.irq_base.specs.Faces.{PlacedEntry, WhereTold, IsPlaced, StopsTell, LeftFalls, own_after}
+use Rattle.irq_base.specs.Faces.{PlacedEntry, WhereTold, Rose, IsPlaced, StopsTell, LeftFalls, own_after}
 use Rattle.irq_base.specs.declared.call.Call.{Call}
 use Rattle.irq_base.specs.declared.call.Call.TheVariants.{Inta}
 use Rattle.irq_base.specs.declared.call.Caller.{Caller}
@@ -16,7 +16,7 @@ use Rattle.irq_base.specs.declared.face.Face.{Ghosts}
 use Rattle.irq_base.specs.declared.reply.Done.{Done}
 use Rattle.irq_base.specs.declared.reply.Spent.{Spent}
 use Rattle.irq_base.specs.declared.shape.Shape.{Shape}
-use Rattle.face_asks.specs.Asks.{Ask, answered_by, answered_in, limit_in, AreOf, WereAsked, HasKept, HasAnswered, StopTold, IsAnswered}
+use Rattle.face_asks.specs.Asks.{Ask, answered_by, answered_in, limit_in, events_after, events_left, AreOf, WereAsked, HasKept, HasAnswered, StopTold, IsAnswered}
 
 -- a caller that is there may ask what is not for processors alone
 pub allowed_to_any : (who : Caller) (call : Call) (shape : Shape) → is_there who shape ≡ true → is_of_processor call ≡ false → is_allowed who call shape ≡ true
@@ -42,6 +42,24 @@ told_weaker (Some x) (Some y) P Q weaker p = weaker x y p
 told_weaker None None P Q weaker p = tt
 told_weaker (Some x) None P Q weaker p = absurd p
 told_weaker None (Some y) P Q weaker p = absurd p
+
+-- ---- the list of events
+
+pub events_then : (ps qs : List PlacedEntry) (had : List Event) → events_after (ps ++ qs) had ≡ events_after qs (events_after ps had)
+events_then [] qs had = refl
+events_then (p ∷ ps) qs had = events_then ps qs p.entry.events
+
+-- calls that were answered, and then others, or a limit
+pub left_then : (spent : Option Spent) (ps qs : List PlacedEntry) (had has now : List Event) → has ≡ events_after ps had → now ≡ events_left spent qs has
+    → now ≡ events_left spent (ps ++ qs) had
+left_then None ps qs had has now first second = second ∙ ap (events_after qs) first ∙ sym (events_then ps qs had)
+left_then (Some spent) ps qs had has now first second = second
+
+-- one call
+pub left_one : (who : Caller) (call : Call) (events had : List Event) (answer : Result Done Spent) → OnErr answer (events ≡ [])
+    → events ≡ events_left (limit_in answer) (answered_by who call events answer) had
+left_one who call events had (Ok done) quiet = refl
+left_one who call events had (Err spent) quiet = quiet
 
 module _ {F : Type 0} (face : Ghosts F) where
   -- ---- each as the face promises
@@ -98,6 +116,11 @@ module _ {F : Type 0} (face : Ghosts F) where
     callers = All-append (λ (p : PlacedEntry). p.entry.caller ≡ face.who x) ps qs first.callers (subst (λ who. AreOf who qs) first.caller second.callers);
     kept = kept_then x y z ps qs first.caller first.kept second.kept;
   }
+
+  -- no limit barred a call, and then one did or none
+  pub stop_then : (spent : Option Spent) (x y z : F) → StopTold face None x y → StopTold face spent y z → StopTold face spent x z
+  stop_then None x y z first second = (second.0 ∙ first.0, second.1 ∙ first.1)
+  stop_then (Some spent) x y z first second = (subst (λ n. Rose n (face.stops z)) first.0 second.0, second.1)
 
   -- what a face's clauses tell of a call
   module _ (before after : F) (call : Call) (events : List Event) where

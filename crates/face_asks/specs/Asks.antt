@@ -31,6 +31,16 @@ abbrev pub limit_in : {A : Type 0} → Result A Spent → Option Spent
 limit_in (Ok answer) = None
 limit_in (Err spent) = Some spent
 
+-- what stands in a list of events where these calls were answered one after another: the events of the last, or what stood there before
+abbrev pub events_after : List PlacedEntry → List Event → List Event
+events_after [] had = had
+events_after (p ∷ answered) had = events_after answered p.entry.events
+
+-- and nothing where a limit barred the next
+abbrev pub events_left : Option Spent → List PlacedEntry → List Event → List Event
+events_left None answered had = events_after answered had
+events_left (Some spent) answered had = []
+
 -- all calls are of one caller
 abbrev pub AreOf : Caller → List PlacedEntry → Type 0
 AreOf who answered = All (λ (p : PlacedEntry). p.entry.caller ≡ who) answered

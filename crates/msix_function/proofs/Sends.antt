@@ -12,10 +12,11 @@ use Rattle.irq_base.specs.declared.event.Event.{Event}
 use Rattle.irq_base.specs.declared.face.Face.{Ghosts}
 use Rattle.irq_base.specs.declared.reply.Done.{Done}
 use Rattle.irq_base.specs.declared.reply.Spent.{Spent}
-use Rattle.face_asks.specs.Asks.{HasAnswered, StopTold, IsAnswered, limit_in}
-use Rattle.face_asks.proofs.Told.{answered_none, answered_then}
+use Rattle.face_asks.specs.Asks.{HasAnswered, StopTold, IsAnswered, events_after, limit_in}
+use Rattle.face_asks.proofs.Told.{answered_none, answered_then, events_then}
+use Rattle.msix_function.specs.Balance.{one_if}
 use Rattle.msix_function.specs.Calls.{Operates, SendsAll}
-use Rattle.msix_function.specs.Functions.{message_at, is_pending_at, is_held, is_due, due, cleared, all_cleared}
+use Rattle.msix_function.specs.Functions.{message_at, is_pending_at, is_held, is_due, due, pended, cleared, all_cleared}
 use Rattle.msix_function.specs.Operations.{Sending, Operation, fire, SendsDue, AnswersSent, AreMessages, call_of, can_send, numbers_in, calls_in}
 use Rattle.msix_function.specs.declared.fired.Fired.{Fired}
 use Rattle.msix_function.specs.declared.fired.Fired.TheVariants.{Sent}
@@ -46,22 +47,38 @@ can_now f k on clear free = (λ i. on i && (not (sym clear i) && not (sym free i
 
 module _ {F : Type 0} (face : Ghosts F) {N : ℕ} where
   -- the message of a fire was sent
-  pub fire_sent : (f : Function N) (k : ℕ) (before after : F) (call : Call) (events : List Event) (done : Done) → can_send f k ≡ true → call ≡ call_of (message_at f k)
-      → (messages : ℕ) → IsAnswered face call events (Ok done) before after → Operates face (fire k) messages (Ok (Sent done.reply)) before after f f
-  fire_sent f k before after call events done can is messages answered = record {
+  pub fire_sent : (f : Function N) (k : ℕ) (before after : F) (call : Call) (had events : List Event) (done : Done) → can_send f k ≡ true → call ≡ call_of (message_at f k)
+      → (messages : ℕ) → IsAnswered face call events (Ok done) before after → Operates face (fire k) messages (Ok (Sent done.reply)) before after f f had events
+  fire_sent f k before after call had events done can is messages answered = record {
     sent = record { number = k; placed = placed } ∷ [];
     step = (can, record { placed = placed; one = refl; call = is; reply_is = refl }, refl);
     asked = answered.answered;
     stops = answered.stops;
     barred = tt;
     enough = always (face.left before) _ (λ _ _. refl);
+    events = refl;
   }
     where
       placed : PlacedEntry
       placed = record { entry = record { caller = face.who before; call = call; reply = done.reply; events = events }; at = done.at }
 
+  -- a limit barred the message of a fire
+  pub fire_barred : (f now : Function N) (k : ℕ) (before after : F) (call : Call) (had events : List Event) (spent : Spent) → can_send f k ≡ true
+      → call ≡ call_of (message_at f k) → now ≡ pended f k → IsAnswered face call events (Err spent) before after
+      → Operates face (fire k) (one_if (can_send f k)) (Err spent) before after f now had events
+  fire_barred f now k before after call had events spent can is pends answered = record {
+    sent = [];
+    step = (can, refl, pends);
+    asked = answered.answered;
+    stops = answered.stops;
+    barred = (k, subst (λ (asked : Call). face.barred after asked spent) (is ∙ ap (λ (g : Function N). call_of (message_at g k)) (sym pends)) answered.barred);
+    enough = if_some (face.left before) _ _
+        (λ left ok enough. (let one = ap one_if can in absurd (true≢false (sym (ok (omega (arith, enough, one)) (ap may_publish is)))))) answered.enough;
+    events = answered.quiet;
+  }
+
   -- the entries below a number that are due were sent
-  pub record SentBelow (f : Function N) (before : F) (k : ℕ) (count : ℕ) (between : F) (now : Function N) : Type 0 where
+  pub record SentBelow (f : Function N) (before : F) (k : ℕ) (count : ℕ) (between : F) (now : Function N) (had here : List Event) : Type 0 where
     pub sent : List Sending
     pub order : numbers_in sent ≡ passing (is_due f) k
     pub count_is : count ≡ length sent
@@ -70,9 +87,10 @@ module _ {F : Type 0} (face : Ghosts F) {N : ℕ} where
     pub cleared : now ≡ all_cleared f (numbers_in sent)
     pub asked : HasAnswered face before between (calls_in sent)
     pub stops : StopTold face None before between
+    pub events : here ≡ events_after (calls_in sent) had
 
-  pub none_sent : (f : Function N) (x : F) → SentBelow f x 0 0 x f
-  none_sent f x = record {
+  pub none_sent : (f : Function N) (x : F) (had : List Event) → SentBelow f x 0 0 x f had had
+  none_sent f x had = record {
     sent = [];
     order = refl;
     count_is = refl;
@@ -81,14 +99,16 @@ module _ {F : Type 0} (face : Ghosts F) {N : ℕ} where
     cleared = refl;
     asked = answered_none face x;
     stops = (refl, refl);
+    events = refl;
   }
 
-  module _ (f : Function N) (before : F) (k count : ℕ) (between : F) (now : Function N) (so_far : SentBelow f before k count between now) where
+  module _ (f : Function N) (before : F) (k count : ℕ) (between : F) (now : Function N) (had here : List Event)
+      (so_far : SentBelow f before k count between now had here) where
     pub due_now : is_due now k ≡ is_due f k
     due_now = due_still f now (numbers_in so_far.sent) k so_far.cleared (ap (is_in k) so_far.order ∙ not_there (is_due f) k)
 
     -- the next is not due
-    pub not_sent : is_due now k ≡ false → SentBelow f before (k + 1) count between now
+    pub not_sent : is_due now k ≡ false → SentBelow f before (k + 1) count between now had here
     not_sent fails = record {
       sent = so_far.sent;
       order = so_far.order ∙ sym (append-nil (passing (is_due f) k)) ∙ sym (passing_same (is_due f) k (sym due_now ∙ fails));
@@ -98,6 +118,7 @@ module _ {F : Type 0} (face : Ghosts F) {N : ℕ} where
       cleared = so_far.cleared;
       asked = so_far.asked;
       stops = so_far.stops;
+      events = so_far.events;
     }
 
     module _ (after : F) (call : Call) (events : List Event) (due_is : is_due now k ≡ true) (is : call ≡ call_of (message_at now k)) where
@@ -105,7 +126,7 @@ module _ {F : Type 0} (face : Ghosts F) {N : ℕ} where
       is_message = is ∙ ap (λ (g : Function N). call_of (message_at g k)) (so_far.cleared ∙ all_cleared_is f (numbers_in so_far.sent))
 
       -- the next is sent
-      pub next_sent : (done : Done) → IsAnswered face call events (Ok done) between after → SentBelow f before (k + 1) (count + 1) after (cleared now k)
+      pub next_sent : (done : Done) → IsAnswered face call events (Ok done) between after → SentBelow f before (k + 1) (count + 1) after (cleared now k) had events
       next_sent done answered = record {
         sent = so_far.sent ++ one ∷ [];
         order = numbers ∙ ap (λ l. l ++ k ∷ []) so_far.order ∙ sym (passing_more (is_due f) k (sym due_now ∙ due_is));
@@ -115,6 +136,7 @@ module _ {F : Type 0} (face : Ghosts F) {N : ℕ} where
         cleared = cleared_next f now (numbers_in so_far.sent) k so_far.cleared ∙ ap (all_cleared f) (sym numbers);
         asked = subst (HasAnswered face before after) (sym calls) (answered_then face before between after (calls_in so_far.sent) (placed ∷ []) so_far.asked answered.answered);
         stops = (answered.stops.0 ∙ so_far.stops.0, answered.stops.1 ∙ so_far.stops.1);
+        events = sym (ap (λ l. events_after l had) calls ∙ events_then (calls_in so_far.sent) (placed ∷ []) had);
       }
         where
           placed : PlacedEntry
@@ -130,7 +152,7 @@ module _ {F : Type 0} (face : Ghosts F) {N : ℕ} where
           calls = map-append (λ (s : Sending). s.placed) so_far.sent (one ∷ [])
 
       -- a limit bars it
-      pub next_barred : (spent : Spent) → k < N → IsAnswered face call events (Err spent) between after → SendsAll face (Err spent) before after f now
+      pub next_barred : (spent : Spent) → k < N → IsAnswered face call events (Err spent) between after → SendsAll face (Err spent) before after f now had events
       next_barred spent below answered = record {
         sent = so_far.sent;
         sends = record {
@@ -145,6 +167,7 @@ module _ {F : Type 0} (face : Ghosts F) {N : ℕ} where
         barred = (k, subst (λ (asked : Call). face.barred after asked spent) is answered.barred);
         enough = not_barred (face.left before) (face.left between) (length (calls_in so_far.sent)) (length (due f)) (Some spent ≡ None) so_far.asked.left fewer
             (if_some (face.left between) _ (λ left. 0 < left → ⊥) (λ left ok some. true≢false (sym (ok some (ap may_publish is)))) answered.enough);
+        events = answered.quiet;
       }
         where
           later : List ℕ
@@ -159,7 +182,7 @@ module _ {F : Type 0} (face : Ghosts F) {N : ℕ} where
               let same = ap length so_far.order in
               omega (arith, all, long, placed, numbered, same)
 
-    pub all_sent : k ≡ N → SendsAll face (Ok count) before between f now
+    pub all_sent : k ≡ N → SendsAll face (Ok count) before between f now had here
     all_sent is = record {
       sent = so_far.sent;
       sends = record {
@@ -173,4 +196,5 @@ module _ {F : Type 0} (face : Ghosts F) {N : ℕ} where
       stops = so_far.stops;
       barred = tt;
       enough = always (face.left before) _ (λ _ _. refl);
+      events = so_far.events;
     }

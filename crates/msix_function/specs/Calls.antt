@@ -2,7 +2,8 @@
 use Rattle.std.specs.Prelude.{◌≡◌, ℕ, ◌≤◌, Bool, if◌then◌else◌, List, length, None, IfSome, IfErr}
 use Rattle.std.specs.declared.option.Option.{Option}
 use Rattle.std.specs.declared.result.Result.{Result}
-use Rattle.face_asks.specs.Asks.{HasAnswered, StopTold, limit_in}
+use Rattle.face_asks.specs.Asks.{HasAnswered, StopTold, limit_in, events_left}
+use Rattle.irq_base.specs.declared.event.Event.{Event}
 use Rattle.irq_base.specs.declared.face.Face.{Ghosts}
 use Rattle.irq_base.specs.declared.reply.Spent.{Spent}
 use Rattle.msix_function.specs.Functions.{message_at, due}
@@ -17,7 +18,7 @@ module _ {F : Type 0} (face : Ghosts F) {N : ℕ} where
 
   -- an operation, which sends so many messages where no limit bars one
   pub record Operates {A : Type 0} (operation : Result A Spent → List Sending → Operation) (messages : ℕ) (answer : Result A Spent)
-      (before after : F) (old new : Function N) : Type 0 where
+      (before after : F) (old new : Function N) (had has : List Event) : Type 0 where
     pub sent : List Sending
     pub step : IsStep old (operation answer sent) new
     pub asked : HasAnswered face before after (calls_in sent)
@@ -25,12 +26,15 @@ module _ {F : Type 0} (face : Ghosts F) {N : ℕ} where
     pub barred : IfErr answer (BarsOne after new)
     -- no limit bars one where the face tells that so many calls are left to it
     pub enough : IfSome (face.left before) (λ left. messages ≤ left → limit_in answer ≡ None)
+    -- the list of events has those of the last message
+    pub events : has ≡ events_left (limit_in answer) (calls_in sent) had
 
   -- the entries that are due are sent
-  pub record SendsAll (answer : Result ℕ Spent) (before after : F) (old new : Function N) : Type 0 where
+  pub record SendsAll (answer : Result ℕ Spent) (before after : F) (old new : Function N) (had has : List Event) : Type 0 where
     pub sent : List Sending
     pub sends : SendsDue old answer sent new
     pub asked : HasAnswered face before after (calls_in sent)
     pub stops : StopTold face (limit_in answer) before after
     pub barred : IfErr answer (BarsOne after new)
     pub enough : IfSome (face.left before) (λ left. length (due old) ≤ left → limit_in answer ≡ None)
+    pub events : has ≡ events_left (limit_in answer) (calls_in sent) had

@@ -15,15 +15,17 @@ use irq_base::{Done, Events, Face, Spent};
 impl<const N: usize> Function<N> {
     /// Requests the message of entry k, below N. Where MSI-X is enabled and the entry is neither pending nor held back by a mask,
     /// the message is sent by one `Msi` call. `Spent` where a limit of the board bars it: the request is then pending, and the
-    /// next `store` or `control` that leaves it free sends it.
+    /// next `store` or `control` that leaves it free sends it. Afterwards `events` has those of the message, none where it was barred;
+    /// where none was asked it stays.
     pub fn fire<F: Face>(
         &mut self,
         k: usize,
         face: &mut F,
         events: &mut Events,
     ) -> Result<Fired, Spent>
-        requires { k < N }
-        ensures { Operates F.Face (fire k) (one_if (can_send self.old k)) result face.old face.new self.old self.new }
+        requires entry { k < N }
+        ensures fires { Operates F.Face (fire k) (one_if (can_send self.old k)) result face.old face.new self.old self.new
+            events.old.items events.new.items }
     {
         if !self.enabled {
             return Ok(Fired::Off);
@@ -47,7 +49,7 @@ impl<const N: usize> Function<N> {
     /// Writes the word of the table at a byte offset; where no word of an entry begins nothing is written. Then, where MSI-X is
     /// enabled, each entry that is pending and not held back by a mask is sent, in order, and the answer is how many were.
     /// `Spent` where a limit of the board bars a message: the word is written, and the entry that was refused and all behind it
-    /// stay pending.
+    /// stay pending. Afterwards `events` has those of the last message, none where it was barred; where none was asked it stays.
     pub fn store<F: Face>(
         &mut self,
         offset: u16,
@@ -55,8 +57,8 @@ impl<const N: usize> Function<N> {
         face: &mut F,
         events: &mut Events,
     ) -> Result<u32, Spent>
-        ensures { Operates F.Face (store offset value) (length (due (stored self.old offset value))) result
-            face.old face.new self.old self.new }
+        ensures stores { Operates F.Face (store offset value) (length (due (stored self.old offset value))) result
+            face.old face.new self.old self.new events.old.items events.new.items }
     {
         self.write(offset, value);
         self.send_due(face, events)
@@ -70,8 +72,8 @@ impl<const N: usize> Function<N> {
         face: &mut F,
         events: &mut Events,
     ) -> Result<u32, Spent>
-        ensures { Operates F.Face (control enable mask) (length (due (controlled self.old enable mask))) result
-            face.old face.new self.old self.new }
+        ensures controls { Operates F.Face (control enable mask) (length (due (controlled self.old enable mask))) result
+            face.old face.new self.old self.new events.old.items events.new.items }
     {
         self.set_bits(enable, mask);
         self.send_due(face, events)
@@ -79,7 +81,7 @@ impl<const N: usize> Function<N> {
 
     // Sends the entries that are due, in order, and tells how many were sent.
     fn send_due<F: Face>(&mut self, face: &mut F, events: &mut Events) -> Result<u32, Spent>
-        ensures { SendsAll F.Face result face.old face.new self.old self.new }
+        ensures { SendsAll F.Face result face.old face.new self.old self.new events.old.items events.new.items }
     {
         let mut sent = 0;
         for k in 0..N {
@@ -104,7 +106,7 @@ impl<const N: usize> Function<N> {
     /// Nothing is done. Over every list of operations since power-on, the fires of an entry that were answered other than `Off` are
     /// as many as the messages sent for it, and those that merged, and one where it is pending.
     pub fn keeps_balance(&self)
-        ensures { (opening : Kept N) (operations : List Asked) (k : ℕ) → k < N → IsAtPowerOn opening
+        ensures balance { (opening : Kept N) (operations : List Asked) (k : ℕ) → k < N → IsAtPowerOn opening
             → Lead opening operations self.now
             → IsBalanced k operations self.now }
     {}

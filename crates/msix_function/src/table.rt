@@ -23,7 +23,7 @@ impl<const N: usize> Function<N> {
     pub fn power_on() -> Function<N>
         requires some { 0 < N }
         requires most { N ≤ 64 }
-        ensures { IsAtPowerOn result }
+        ensures opening { IsAtPowerOn result }
     {
         Function {
             entries: [Entry::power_on(); N],
@@ -35,7 +35,7 @@ impl<const N: usize> Function<N> {
 
     /// The word of the table at a byte offset. Where no word of an entry begins it is 0.
     pub fn load(&self, offset: u16) -> u32
-        ensures { result ≡ loaded self.now offset }
+        ensures value { result ≡ loaded self.now offset }
     {
         match self.entries.get(usize::from(offset / 16)) {
             Some(entry) => entry.read(Word::at(offset)),
@@ -45,7 +45,7 @@ impl<const N: usize> Function<N> {
 
     /// Whether the pending bit of entry k is set; there is none from N on.
     pub fn pending(&self, k: usize) -> bool
-        ensures { result ≡ is_pending_at self.now k }
+        ensures value { result ≡ is_pending_at self.now k }
     {
         match self.is_pending.get(k) {
             Some(is_pending) => *is_pending,

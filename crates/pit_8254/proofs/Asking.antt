@@ -1,65 +1,84 @@
 -- Ticks asked of a face one after another.
-use Rattle.std.proofs.Common.{◌≡◌, ℕ, ◌+◌, List, [], ◌++◌, Option, Some, None, refl, sym, ap, ◌∙◌, subst, arith, append_assoc, length-append, add-zero}
-use Rattle.std.proofs.lemmas.List.{append-nil}
-use Rattle.std.proofs.lemmas.List.Elements.{All-append, All-nil}
-use Rattle.irq_base.specs.Faces.{PlacedEntry, WhereTold}
-use Rattle.irq_base.specs.declared.call.Caller.{Caller}
+use Rattle.std.proofs.Common.{◌≡◌, ℕ, zero, suc, ◌+◌, ◌<◌, ◌≤◌, false, List, [], ◌++◌, length, Option, Some, None, Ok, Err, IfSome, IsOk, refl, sym, ◌∙◌, subst, arith, length-append}
+use Rattle.std.proofs.lemmas.Bool.{true≢false}
+use Rattle.std.proofs.lemmas.List.Elements.{All-append, All-cons, All-nil}
+use Rattle.std.specs.declared.result.Result.{Result}
+use Rattle.irq_base.specs.Faces.{PlacedEntry, WhereTold, may_publish}
+use Rattle.irq_base.specs.declared.call.Call.TheVariants.{Tick}
+use Rattle.irq_base.specs.declared.event.Event.{Event}
 use Rattle.irq_base.specs.declared.face.Face.{Ghosts}
-use Rattle.pit_8254.specs.Asks.{HasTicked, IsTickOf, IsUnbarred, TicksGained}
+use Rattle.irq_base.specs.declared.reply.Done.{Done}
+use Rattle.irq_base.specs.declared.reply.Spent.{Spent}
+use Rattle.face_asks.specs.Asks.{IsAnswered}
+use Rattle.face_asks.proofs.Told.{answered_none, answered_then, left_one, left_then}
+use Rattle.pit_8254.specs.Asks.{HasTicked, IsTick}
 
--- what is told before, between and after
-pub told_both : {A : Type 0} (x y z : Option A) (P Q R : A → A → Type 0) → ((a b c : A) → P a b → Q b c → R a c)
-    → WhereTold x y P → WhereTold y z Q → WhereTold x z R
-told_both (Some a) (Some b) (Some c) P Q R both p q = both a b c p q
-told_both (Some a) (Some b) None P Q R both p q = q
-told_both (Some a) None z P Q R both p q = absurd p
-told_both None (Some b) z P Q R both p q = absurd p
-told_both None None (Some c) P Q R both p q = q
-told_both None None None P Q R both p q = tt
+-- a limit barred a call
+abbrev stopped : Spent → Result Done Spent
+stopped spent = Err spent
 
-told_same : {A : Type 0} (x : Option A) (P : A → A → Type 0) → ((a : A) → P a a) → WhereTold x x P
-told_same (Some a) P same = same a
-told_same None P same = tt
-
-gained_none : (who : Caller) (had : List PlacedEntry) → TicksGained who 0 had had
-gained_none who had = record { gained = []; behind = sym (append-nil had); many = refl; each = All-nil (IsTickOf who) }
-
-gained_both : (who : Caller) (m n : ℕ) (a b c : List PlacedEntry) → TicksGained who m a b → TicksGained who n b c → TicksGained who (m + n) a c
-gained_both who m n a b c first next = record {
-  gained = first.gained ++ next.gained;
-  behind = next.behind ∙ ap (λ l. l ++ next.gained) first.behind ∙ append_assoc a first.gained next.gained;
-  many = length-append first.gained next.gained ∙ (λ i. first.many i + next.many i);
-  each = All-append (IsTickOf who) first.gained next.gained first.each next.each;
-}
+-- where calls are left no more than so many, and these were asked and left none
+left_most : (before between : Option ℕ) (ticks : List PlacedEntry) (n : ℕ) → WhereTold before between (λ had has. has + length ticks ≡ had) → length ticks ≡ n
+    → IfSome between (λ left. left ≡ 0) → IfSome before (λ left. left ≤ n)
+left_most None between ticks n falls many none = tt
+left_most (Some had) None ticks n falls many none = absurd falls
+left_most (Some had) (Some has) ticks n falls many none = omega (arith, falls, many, none)
 
 module _ {F : Type 0} (face : Ghosts F) where
   -- nothing was asked
-  pub ticked_none : (f : F) → HasTicked face 0 f f
-  ticked_none f = record {
-    shape = refl;
-    who = refl;
-    home = refl;
-    floor = omega arith;
-    own = told_same (face.own f) (TicksGained (face.who f) 0) (gained_none (face.who f));
-    left = told_same (face.left f) (λ had has. has + 0 ≡ had) add-zero;
-  }
+  pub ticked_none : (f : F) (had : List Event) → HasTicked face 0 None f f had had
+  ticked_none f had = record { ticks = []; many = refl; each = All-nil IsTick; asked = answered_none face f; events = refl }
 
   -- ticks, and then more
-  pub ticked_both : (m n : ℕ) (a b c : F) → HasTicked face m a b → HasTicked face n b c → HasTicked face (m + n) a c
-  ticked_both m n a b c first next = record {
-    shape = next.shape ∙ first.shape;
-    who = next.who ∙ first.who;
-    home = next.home ∙ first.home;
-    floor = omega (arith, first.floor, next.floor);
-    own = told_both (face.own a) (face.own b) (face.own c) (TicksGained (face.who a) m) (TicksGained (face.who b) n) (TicksGained (face.who a) (m + n))
-        (λ x y z p q. gained_both (face.who a) m n x y z p (subst (λ w. TicksGained w n y z) first.who q)) first.own next.own;
-    left = told_both (face.left a) (face.left b) (face.left c) (λ had has. has + m ≡ had) (λ had has. has + n ≡ had) (λ had has. has + (m + n) ≡ had)
-        (λ x y z p q. omega (arith, p, q)) first.left next.left;
+  pub ticked_both : (m n : ℕ) (spent : Option Spent) (a b c : F) (had has now : List Event) → HasTicked face m None a b had has → HasTicked face n spent b c has now
+      → HasTicked face (m + n) spent a c had now
+  ticked_both m n spent a b c had has now first next = record {
+    ticks = first.ticks ++ next.ticks;
+    many = length-append first.ticks next.ticks ∙ (λ i. first.many i + next.many i);
+    each = All-append IsTick first.ticks next.ticks first.each next.each;
+    asked = answered_then face a b c first.ticks next.ticks first.asked next.asked;
+    events = left_then spent first.ticks next.ticks had has now first.events next.events;
   }
 
-  -- no call was barred
-  pub unbarred_none : (f : F) → IsUnbarred face f f
-  unbarred_none f = record { stops = refl; last = refl }
+  -- ticks, and then a limit
+  pub ticked_barred : (n : ℕ) (spent : Option Spent) (a b c : F) (had has now : List Event) → HasTicked face n None a b had has → HasTicked face 0 spent b c has now
+      → HasTicked face n spent a c had now
+  ticked_barred n spent a b c had has now first next =
+      let same : n + 0 ≡ n = omega arith in
+      subst (λ k. HasTicked face k spent a c had now) same (ticked_both n 0 spent a b c had has now first next)
 
-  pub unbarred_both : (a b c : F) → IsUnbarred face a b → IsUnbarred face b c → IsUnbarred face a c
-  unbarred_both a b c first next = record { stops = next.stops ∙ first.stops; last = next.last ∙ first.last }
+  -- one tick was asked, and answered or barred
+  module _ (before after : F) (had has : List Event) where
+    pub ticked_answered : (done : Done) → IsAnswered face Tick has (Ok done) before after → HasTicked face 1 None before after had has
+    ticked_answered done told = record {
+      ticks = _;
+      many = refl;
+      each = All-cons IsTick _ [] refl (All-nil IsTick);
+      asked = told.answered;
+      events = left_one (face.who before) Tick has had (Ok done) told.quiet;
+    }
+
+    pub ticked_stopped : (spent : Spent) → IsAnswered face Tick has (Err spent) before after → HasTicked face 0 (Some spent) before after had has
+    ticked_stopped spent told = record {
+      ticks = [];
+      many = refl;
+      each = All-nil IsTick;
+      asked = told.answered;
+      events = left_one (face.who before) Tick has had (Err spent) told.quiet;
+    }
+
+    -- a tick is barred only where no call is left
+    pub none_at_stop : (spent : Spent) → IsAnswered face Tick has (Err spent) before after → IfSome (face.left before) (λ left. left ≡ 0)
+    none_at_stop spent told = by (face.left before) told.enough
+      where
+        by : (left : Option ℕ) → IfSome left (λ n. 0 < n → may_publish Tick ≡ false → IsOk (stopped spent)) → IfSome left (λ n. n ≡ 0)
+        by None enough = tt
+        by (Some zero) enough = refl
+        by (Some (suc n)) enough = absurd (true≢false (sym (enough (omega arith) refl)))
+
+  -- where a limit bars one behind so many ticks, no more calls were left
+  pub most_left : (n : ℕ) (a b : F) (had has : List Event) → HasTicked face n None a b had has → IfSome (face.left b) (λ left. left ≡ 0)
+      → IfSome (face.left a) (λ left. left ≤ n)
+  most_left n a b had has ticked none = left_most (face.left a) (face.left b) ticked.ticks n ticked.asked.left ticked.many none
+
+pub ruleset ask_rules = (ticked_answered, ticked_stopped, none_at_stop)

@@ -2,4 +2,4 @@ pub mod Clocking
 pub mod Asking
 pub mod Advancing
 pub mod Standing
-pub mod Performing
+pub mod Leading

@@ -1,10 +1,12 @@
 -- What a face gains where ticks are asked of it.
-use Rattle.std.specs.Prelude.{◌≡◌, ℕ, ◌+◌, ◌≤◌, Bool, true, false, List, ◌++◌, length, All, Some, Ok, Err}
+use Rattle.std.specs.Prelude.{◌≡◌, ℕ, Bool, true, false, List, length, All, Option, Some, None, Ok, Err}
 use Rattle.std.specs.declared.result.Result.{Result}
-use Rattle.irq_base.specs.Faces.{PlacedEntry, Rose, WhereTold}
+use Rattle.face_asks.specs.Asks.{events_left, HasAnswered}
+use Rattle.irq_base.specs.Faces.{PlacedEntry}
 use Rattle.irq_base.specs.declared.call.Call.TheVariants.{Tick}
 use Rattle.irq_base.specs.declared.call.Caller.{Caller}
 use Rattle.irq_base.specs.declared.call.Caller.TheVariants.{Device, Cpu}
+use Rattle.irq_base.specs.declared.event.Event.{Event}
 use Rattle.irq_base.specs.declared.face.Face.{Ghosts}
 use Rattle.irq_base.specs.declared.reply.Spent.{Spent}
 use Rattle.pit_8254.specs.declared.ticking.PitSpent.{PitSpent}
@@ -14,41 +16,29 @@ abbrev pub is_device : Caller → Bool
 is_device (Device d) = true
 is_device (Cpu n) = false
 
--- an entry is a tick that the caller asked
-abbrev pub IsTickOf : Caller → PlacedEntry → Type 0
-IsTickOf who placed = (placed.entry.caller ≡ who) × (placed.entry.call ≡ Tick)
+-- a call is a tick
+abbrev pub IsTick : PlacedEntry → Type 0
+IsTick placed = placed.entry.call ≡ Tick
 
--- a caller's entries grew by so many ticks that it asked, and by nothing else
-pub record TicksGained (who : Caller) (n : ℕ) (had has : List PlacedEntry) : Type 0 where
-  pub gained : List PlacedEntry
-  pub behind : has ≡ had ++ gained
-  pub many : length gained ≡ n
-  pub each : All (IsTickOf who) gained
-
--- how many ticks were answered
+-- how many ticks were answered, and the limit that barred one, if one did
 abbrev pub answered : Result ℕ PitSpent → ℕ
 answered (Ok ticks) = ticks
 answered (Err stop) = stop.ticks
 
-module _ {F : Type 0} (face : Ghosts F) where
-  -- so many ticks were asked of a face and answered
-  pub record HasTicked (n : ℕ) (before after : F) : Type 0 where
-    pub shape : face.shape after ≡ face.shape before
-    pub who : face.who after ≡ face.who before
-    pub home : face.home after ≡ face.home before
-    pub floor : face.floor before ≤ face.floor after
-    -- where it tells the entries of its caller, it gained just these
-    pub own : WhereTold (face.own before) (face.own after) (TicksGained (face.who before) n)
-    -- where it tells how many calls are left to it, they are fewer by just these
-    pub left : WhereTold (face.left before) (face.left after) (λ had has. has + n ≡ had)
+abbrev pub limit_of : Result ℕ PitSpent → Option Spent
+limit_of (Ok ticks) = None
+limit_of (Err stop) = Some stop.spent
 
-  -- no limit barred a call
-  pub record IsUnbarred (before after : F) : Type 0 where
-    pub stops : face.stops after ≡ face.stops before
-    pub last : face.last after ≡ face.last before
+-- one tick was answered, or none
+abbrev pub one_in : {A B : Type 0} → Result A B → ℕ
+one_in (Ok answer) = 1
+one_in (Err fault) = 0
 
-  -- a limit barred a tick
-  pub record IsBarred (spent : Spent) (before after : F) : Type 0 where
-    pub stops : Rose (face.stops before) (face.stops after)
-    pub last : face.last after ≡ Some spent
-    pub barred : face.barred after Tick spent
+-- So many ticks were asked of a face and answered, one after another, and then a limit barred one, or none did. The list of events has those
+-- of the last ask
+pub record HasTicked {F : Type 0} (face : Ghosts F) (n : ℕ) (spent : Option Spent) (before after : F) (had has : List Event) : Type 0 where
+  pub ticks : List PlacedEntry
+  pub many : length ticks ≡ n
+  pub each : All IsTick ticks
+  pub asked : HasAnswered face before after ticks
+  pub events : has ≡ events_left spent ticks had

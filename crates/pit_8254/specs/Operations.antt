@@ -1,59 +1,87 @@
--- Lists of writes, reads and clocks, and the ticks of a channel over them.
-use Rattle.std.specs.Prelude.{◌≡◌, ℕ, ◌+◌, ◌≤◌, true, List, [], ◌∷◌, ◌++◌}
+-- Operations of a channel, made singly, and the ticks of a channel over a list of them.
+use Rattle.std.specs.Prelude.{◌≡◌, ℕ, ◌+◌, ◌<◌, List, [], ◌∷◌, ◌++◌, length, All, Ok, Err}
+use Rattle.std.specs.declared.result.Result.{Result}
+use Rattle.face_asks.specs.Asks.{events_left, HasAnswered}
+use Rattle.irq_base.specs.Faces.{PlacedEntry}
+use Rattle.irq_base.specs.declared.event.Event.{Event}
 use Rattle.irq_base.specs.declared.face.Face.{Ghosts}
-use Rattle.pit_8254.specs.Accesses.{after_port_read, is_pit_port, port_written}
-use Rattle.pit_8254.specs.Asks.{HasTicked, IsBarred}
-use Rattle.pit_8254.specs.Clocks.{channel_after, channel_ticks, StandsBefore}
+use Rattle.pit_8254.specs.Accesses.{after_port_read, port_read, port_written, unset}
+use Rattle.pit_8254.specs.Asks.{limit_of, IsTick}
+use Rattle.pit_8254.specs.Clocks.{channel_after, channel_ticks}
 use Rattle.pit_8254.specs.declared.channel.Channel.{Channel}
-use Rattle.pit_8254.specs.declared.operations.PitOp.{PitOp}
-use Rattle.pit_8254.specs.declared.operations.PitOp.TheVariants.{Write, Read, Advance}
 use Rattle.pit_8254.specs.declared.ticking.PitSpent.{PitSpent}
 
--- one of the two ports, or at most 10,000,000 clocks
-abbrev pub IsPitOp : PitOp → Type 0
-IsPitOp (Write port value) = is_pit_port port ≡ true
-IsPitOp (Read port) = is_pit_port port ≡ true
-IsPitOp (Advance clocks) = clocks ≤ 10000000
+-- What is done to a channel: a byte is written to a port; a byte is read of a port, and this was it; or clocks are to go by, and so many of
+-- them did, with this answer and these ticks, which were asked and answered
+pub data Operation : Type 0 where
+  write : ℕ → ℕ → Operation
+  read : ℕ → ℕ → Operation
+  advance : ℕ → ℕ → Result ℕ PitSpent → List PlacedEntry → Operation
 
--- the channel after one of them, and its ticks
-abbrev pub after_op : PitOp → Channel → Channel
-after_op (Write port value) ch = port_written port value ch
-after_op (Read port) ch = after_port_read port ch
-after_op (Advance clocks) ch = channel_after clocks ch
+-- all clocks went by, and the number of ticks is answered; or a limit barred the tick that falls in the next clock, and the number of those
+-- before it is told
+abbrev pub Tells : ℕ → ℕ → Result ℕ PitSpent → List PlacedEntry → Channel → Type 0
+Tells clocks gone (Ok n) ticks now = (gone ≡ clocks) × (n ≡ length ticks)
+Tells clocks gone (Err stop) ticks now = (gone < clocks) × (stop.ticks ≡ length ticks) × (channel_ticks 1 now ≡ 1)
 
-abbrev pub ticks_at : PitOp → Channel → ℕ
-ticks_at (Write port value) ch = 0
-ticks_at (Read port) ch = 0
-ticks_at (Advance clocks) ch = channel_ticks clocks ch
+-- clocks went by, and the calls that were asked are as many as the ticks that fall in them, each a tick
+pub record GoBy (clocks gone : ℕ) (answer : Result ℕ PitSpent) (ticks : List PlacedEntry) (ch now : Channel) : Type 0 where
+  pub stands : now ≡ channel_after gone ch
+  pub many : length ticks ≡ channel_ticks gone ch
+  pub each : All IsTick ticks
+  pub told : Tells clocks gone answer ticks now
 
--- the channel after a list of them, and its ticks
-unfoldable pub after_ops : List PitOp → Channel → Channel
+-- one operation leads from one channel to the next
+abbrev pub IsStep : Channel → Operation → Channel → Type 0
+IsStep ch (write port value) now = now ≡ port_written port value ch
+IsStep ch (read port byte) now = (byte ≡ port_read port ch) × (now ≡ after_port_read port ch)
+IsStep ch (advance clocks gone answer ticks) now = GoBy clocks gone answer ticks ch now
+
+-- Clocks were to go by: a step of the channel, whose ticks the face answered, just these, one after another. The list of events has those of
+-- the last ask
+pub record Advances {F : Type 0} (face : Ghosts F) (clocks : ℕ) (answer : Result ℕ PitSpent) (before after : F) (ch now : Channel)
+    (had has : List Event) : Type 0 where
+  pub gone : ℕ
+  pub ticks : List PlacedEntry
+  pub step : IsStep ch (advance clocks gone answer ticks) now
+  pub asked : HasAnswered face before after ticks
+  pub events : has ≡ events_left (limit_of answer) ticks had
+
+-- ---- over a list
+
+-- operations lead one after another from one channel to another
+abbrev pub Lead : Channel → List Operation → Channel → Type 0
+Lead ch [] now = now ≡ ch
+Lead ch (operation ∷ more) now = (next : Channel) × IsStep ch operation next × Lead next more now
+
+-- the calls that were asked and answered in them
+abbrev pub asked_in : List Operation → List PlacedEntry
+asked_in [] = []
+asked_in (write port value ∷ more) = asked_in more
+asked_in (read port byte ∷ more) = asked_in more
+asked_in (advance clocks gone answer ticks ∷ more) = ticks ++ asked_in more
+
+-- the channel after the same writes, reads and clocks, and its ticks over them, by the definition
+abbrev pub after_op : Operation → Channel → Channel
+after_op (write port value) ch = port_written port value ch
+after_op (read port byte) ch = after_port_read port ch
+after_op (advance clocks gone answer ticks) ch = channel_after gone ch
+
+abbrev pub ticks_at : Operation → Channel → ℕ
+ticks_at (write port value) ch = 0
+ticks_at (read port byte) ch = 0
+ticks_at (advance clocks gone answer ticks) ch = channel_ticks gone ch
+
+abbrev pub after_ops : List Operation → Channel → Channel
 after_ops [] ch = ch
-after_ops (op ∷ ops) ch = after_ops ops (after_op op ch)
+after_ops (operation ∷ more) ch = after_ops more (after_op operation ch)
 
-unfoldable pub ticks_over : List PitOp → Channel → ℕ
+abbrev pub ticks_over : List Operation → Channel → ℕ
 ticks_over [] ch = 0
-ticks_over (op ∷ ops) ch = ticks_at op ch + ticks_over ops (after_op op ch)
+ticks_over (operation ∷ more) ch = ticks_at operation ch + ticks_over more (after_op operation ch)
 
-module _ {F : Type 0} (face : Ghosts F) where
-  -- a limit barred a tick in these clocks
-  pub record IsBarredIn (clocks : ℕ) (stop : PitSpent) (before now : Channel) (f g : F) : Type 0 where
-    pub stands : StandsBefore clocks stop.ticks before now
-    pub ticked : HasTicked face stop.ticks f g
-    pub barred : IsBarred face stop.spent f g
-
-  -- a limit barred a tick in this one
-  abbrev pub IsBarredAt : PitOp → PitSpent → Channel → Channel → F → F → Type 0
-  IsBarredAt (Write port value) stop before now f g = ⊥
-  IsBarredAt (Read port) stop before now f g = ⊥
-  IsBarredAt (Advance clocks) stop before now f g = IsBarredIn clocks stop before now f g
-
-  -- a limit barred a tick in one of them: those before it were done, with their ticks, and none behind it
-  pub record AreBarred (ops : List PitOp) (stop : PitSpent) (before now : Channel) (f g : F) : Type 0 where
-    pub done : List PitOp
-    pub clocks : ℕ
-    pub rest : List PitOp
-    pub all : ops ≡ done ++ Advance clocks ∷ rest
-    pub stands : StandsBefore clocks stop.ticks (after_ops done before) now
-    pub ticked : HasTicked face (ticks_over done before + stop.ticks) f g
-    pub barred : IsBarred face stop.spent f g
+-- the calls asked over operations since power-on are ticks, as many as those of the definition
+pub record TicksOnce (operations : List Operation) (now : Channel) : Type 0 where
+  pub stands : now ≡ after_ops operations unset
+  pub many : length (asked_in operations) ≡ ticks_over operations unset
+  pub each : All IsTick (asked_in operations)

@@ -5,19 +5,14 @@
 //! of the count gives are this project's own rules, after the 8254; they say nothing of that part's counting element.
 //!
 //! Reading order of the definitions: `Words` (control words), `Clocks` (what a clock does, and the ticks of many), `Accesses` (what the
-//! two ports do), `Asks` (what a face gains), `Operations` (lists of accesses and clocks).
+//! two ports do), `Asks` (what a face gains), `Operations` (one access or some clocks, and lists of them).
 #![tactic(auto)]
 
 mod channel;
 mod countdown;
-mod operations;
 mod pit;
 mod ticking;
 mod words;
 
-pub use channel::{Channel, Latch};
-pub use countdown::Countdown;
-pub use operations::PitOp;
 pub use pit::{CHANNEL_PORT, CONTROL_PORT, Pit};
 pub use ticking::PitSpent;
-pub use words::{Control, PitAccess, PitMode, Program};

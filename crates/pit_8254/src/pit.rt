@@ -1,8 +1,11 @@
 //! Channel 0 of an 8254.
-ghost use Rattle.std.specs.Prelude.{◌≡◌, ◌≤◌, true, IfErr, IfOk, IfSome, IsOk, OnOk};
+ghost use Rattle.std.specs.Prelude.{◌≡◌, ◌≤◌, true, List, IfErr, IfOk, IfSome, IsOk, OnOk};
+ghost use Rattle.face_asks.specs.Asks.{StopTold};
+ghost use Rattle.irq_base.specs.declared.call.Call.TheVariants.{Tick};
 ghost use Rattle.pit_8254.specs.Accesses.{after_port_read, is_pit_port, port_read, port_written, unset};
-ghost use Rattle.pit_8254.specs.Asks.{answered, is_device, HasTicked, IsBarred, IsUnbarred};
+ghost use Rattle.pit_8254.specs.Asks.{is_device, limit_of};
 ghost use Rattle.pit_8254.specs.Clocks.{channel_after, channel_ticks, StandsBefore};
+ghost use Rattle.pit_8254.specs.Operations.{Advances, Lead, Operation, TicksOnce};
 
 use crate::channel::Channel;
 use crate::ticking::PitSpent;
@@ -70,7 +73,8 @@ impl Pit {
     }
 
     /// So many clocks go by, at most 10,000,000: each tick that falls is asked of the board by the face of a device. It answers how many
-    /// there were. Where a limit of the board bars one, the channel stands one clock before it.
+    /// there were. Where a limit of the board bars one, the channel stands one clock before it. Afterwards `events` has those of the last
+    /// tick that was asked, none where it was barred; where no tick falls it stays.
     pub fn advance<F: Face>(
         &mut self,
         clocks: u64,
@@ -84,15 +88,20 @@ impl Pit {
         ensures ticks { IfOk result (λ ticks. ticks ≡ channel_ticks clocks self.old) }
         ensures stands { IfErr result (λ stop. StandsBefore clocks stop.ticks self.old self.new) }
 
-        // What the face gained: the ticks that were answered, each once.
-        ensures asked { HasTicked F.Face (answered result) face.old face.new }
-        ensures unbarred { OnOk result (IsUnbarred F.Face face.old face.new) }
-        ensures barred { IfErr result (λ stop. IsBarred F.Face stop.spent face.old face.new) }
+        // What the face gained: the ticks that were answered, each once; and the events of the last ask.
+        ensures asked { Advances F.Face clocks result face.old face.new self.old self.new events.old.items events.new.items }
+        ensures stops { StopTold F.Face (limit_of result) face.old face.new }
+        ensures barred { IfErr result (λ stop. F.barred face.new Tick stop.spent) }
 
         // Where as many calls are left as there are ticks, none is barred.
         ensures answers { IfSome (F.left face.old) (λ left. channel_ticks clocks self.old ≤ left → IsOk result) }
     {
-        let _caller = face.caller();
         self.channel.advance(clocks, face, events)
     }
+
+    /// Nothing is done. Over every list of operations since power-on, made singly, the calls that were asked and answered are ticks, as many
+    /// as the definition has over the same writes, reads and clocks that went by.
+    pub fn ticks_once(&self)
+        ensures once { (operations : List Operation) → Lead unset operations self.now → TicksOnce operations self.now }
+    {}
 }

@@ -1,14 +1,15 @@
-use Rattle.std.proofs.Common.{◌-◌, arith}
+use Rattle.std.proofs.Common.{◌-◌, None, Some, refl, arith}
 use Rattle.pit_8254.proofs.Advancing.{gone_none, gone_all, tick_next, stands_before, gone_next}
-use Rattle.pit_8254.proofs.Asking.{ticked_none, ticked_both, unbarred_none, unbarred_both}
+use Rattle.face_asks.proofs.Told.{stop_then}
+use Rattle.pit_8254.proofs.Asking.{ticked_none, ticked_both, ticked_barred, most_left}
 use Rattle.pit_8254.proofs.Clocking.{ticks_most}
 use Rattle.pit_8254.proofs.countdown.Countdown.advance.Goals as goal
 
 pub loop-gap-init : goal.loop-gap-init
 loop-gap-init g c = record {
   gone = gone_none c.args.clocks c.args.self.now c.requires.counting;
-  asked = ticked_none g.F.Face c.args.face.now;
-  free = unbarred_none g.F.Face c.args.face.now;
+  asked = ticked_none g.F.Face c.args.face.now c.args.events.now.items;
+  stops = (refl, refl);
 }
 
 pub returns-in-Err-clause-stands : goal.returns-in-Err-clause-stands
@@ -16,6 +17,19 @@ returns-in-Err-clause-stands g c =
     let gap = c.in-Some.ensures.some in
     stands_before c.args.clocks c.args.self.now c.loop-gap.self c.wait.new.self c.loop-gap.left c.loop-gap.ticks c.in-Some.gap
     c.loop-gap.invariant.gone gap.0 gap.1 gap.2 c.wait.ensures.after
+
+pub returns-in-Err-clause-asked : goal.returns-in-Err-clause-asked
+returns-in-Err-clause-asked g c =
+    ticked_barred g.F.Face c.loop-gap.ticks (Some c.in-Err.spent) c.args.face.now c.loop-gap.face c.ask_tick.new.face
+    c.args.events.now.items c.loop-gap.events.items c.ask_tick.new.events.items c.loop-gap.invariant.asked c.in-Err.ensures.asked
+
+pub returns-in-Err-clause-stops : goal.returns-in-Err-clause-stops
+returns-in-Err-clause-stops g c =
+    stop_then g.F.Face (Some c.in-Err.spent) c.args.face.now c.loop-gap.face c.ask_tick.new.face c.loop-gap.invariant.stops c.in-Err.ensures.stops
+
+pub returns-in-Err-clause-none_left : goal.returns-in-Err-clause-none_left
+returns-in-Err-clause-none_left g c =
+    most_left g.F.Face c.loop-gap.ticks c.args.face.now c.loop-gap.face c.args.events.now.items c.loop-gap.events.items c.loop-gap.invariant.asked c.in-Err.ensures.none_left
 
 pub tick-requires-clause-ticks : goal.tick-requires-clause-ticks
 tick-requires-clause-ticks g c =
@@ -39,8 +53,9 @@ loop-gap-preserved g c =
     record {
       gone = gone_next c.args.clocks c.args.self.now c.loop-gap.self c.wait.new.self c.loop-gap.left c.loop-gap.ticks c.in-Some.gap
           c.loop-gap.invariant.gone gap.0 gap.1 gap.2 c.wait.ensures.after c.tick.new.self c.tick.ensures.after c.tick.ensures.counting;
-      asked = ticked_both g.F.Face c.loop-gap.ticks 1 start here next c.loop-gap.invariant.asked c.in_default-ask_tick.ensures.ok;
-      free = unbarred_both g.F.Face start here next c.loop-gap.invariant.free c.in_default-ask_tick.ensures.free;
+      asked = ticked_both g.F.Face c.loop-gap.ticks 1 None start here next c.args.events.now.items c.loop-gap.events.items c.ask_tick.new.events.items
+          c.loop-gap.invariant.asked c.in_default-ask_tick.ensures.asked;
+      stops = stop_then g.F.Face None start here next c.loop-gap.invariant.stops c.in_default-ask_tick.ensures.stops;
     }
 
 pub returns-clause-after : goal.returns-clause-after
