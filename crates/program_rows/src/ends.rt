@@ -1,6 +1,4 @@
 //! Runs of the program: texts of a command line in, a line on standard error and an exit status out.
-ghost use Rattle.std.specs.Prelude.{◌<◌};
-
 use crate::asking::{FIRST_SCRIPT, FIRST_TRANSCRIPT};
 use io_edge::{MemSink, MemSource, OpenGate};
 use irqboard::{Bench, asked};
@@ -63,11 +61,10 @@ fn args(alloc: Global, texts: Texts) -> Result<io::Result<Args>, AllocError> {
     Ok(Ok(texts.into_iter()))
 }
 
-// A sink with room for all that is said or written.
-fn sink(alloc: Global, step: usize, write: u64) -> Result<MemSink, AllocError>
-    requires { 0 < step }
-{
-    match MemSink::of(alloc, 1000, step, [write].to_vec(alloc)?) {
+// A sink with room for all that is said or written, which takes 50 bytes at a write.
+fn sink(alloc: Global, write: u64) -> Result<MemSink, AllocError> {
+    let fails = [write].to_vec(alloc)?;
+    match MemSink::of(alloc, 1000, 50, fails) {
         Ok(sink) => Ok(sink),
         Err(_) => Err(AllocError),
     }
@@ -83,8 +80,8 @@ fn ends_so<R: Threads + Wait + Sync + Eprint>(
     said: &str,
 ) -> Result<bool, AllocError> {
     let mut source = MemSource::of(FIRST_SCRIPT.as_bytes().to_vec(alloc)?, 7, Vec::new(alloc));
-    let mut output = sink(alloc, 5, NEVER)?;
-    let mut errors = sink(alloc, 50, write)?;
+    let mut output = sink(alloc, NEVER)?;
+    let mut errors = sink(alloc, write)?;
     let mut bench = Bench::empty();
     let texts = args(alloc, texts)?;
     let ended = asked(
@@ -107,10 +104,10 @@ fn ends_so<R: Threads + Wait + Sync + Eprint>(
 
 #[test]
 fn runs_end_as_the_answer_is(rt: HostRuntime) -> Result<(), Fail> {
-    for (k, (texts, write, status, said)) in RUNS.iter().enumerate() {
+    for (texts, write, status, said) in RUNS {
         assert!(rt;
-            ends_so(&rt, rt.alloc(), *texts, *write, *status, *said)?,
-            "run {k}"
+            ends_so(&rt, rt.alloc(), texts, write, status, said)?,
+            "{said}"
         );
     }
     Ok(())

@@ -45,20 +45,76 @@ const CALLS: [(&str, &str, &str, u64, u64); 4] = [
     ),
 ];
 
-// Whether that is the outcome, and so many bytes of the text were written, or all of a shorter one.
+// Whether that is the outcome, and so many bytes of the text are written, or all of a shorter one.
 fn is(came: &Came, outcome: Outcome, text: &str, count: u64) -> bool {
     let text = text.as_bytes();
     let count = text.len().min(count as usize);
     came.outcome == outcome && came.sink.bytes() == &text[..count]
 }
 
+// Whether a failing read of that number is a fault, and nothing is written.
+fn read_fails<R: Threads + Wait + Sync>(
+    rt: &R,
+    alloc: Global,
+    line: &str,
+    behind: &str,
+    read: u64,
+) -> Result<bool, AllocError> {
+    let came = came(rt, alloc, line, behind, 1000, read, NEVER)?;
+    Ok(is(&came, Outcome::ReadFault, "", 0))
+}
+
+// Whether a failing write of that number is a fault, and all that was written before it is a front of the text.
+fn write_fails<R: Threads + Wait + Sync>(
+    rt: &R,
+    alloc: Global,
+    line: &str,
+    behind: &str,
+    text: &str,
+    write: u64,
+) -> Result<bool, AllocError> {
+    let came = came(rt, alloc, line, behind, 1000, NEVER, write)?;
+    Ok(is(&came, Outcome::WriteFault, text, write.saturating_mul(5)))
+}
+
+// How many of the first so many failing reads are faults.
+fn read_faults<R: Threads + Wait + Sync>(
+    rt: &R,
+    alloc: Global,
+    line: &str,
+    behind: &str,
+    reads: u64,
+) -> Result<u64, AllocError> {
+    let mut faults: u64 = 0;
+    for k in 0..reads {
+        faults = faults.saturating_add(u64::from(read_fails(rt, alloc, line, behind, k)?));
+    }
+    Ok(faults)
+}
+
+// How many of the first so many failing writes are faults behind a front of the text.
+fn write_faults<R: Threads + Wait + Sync>(
+    rt: &R,
+    alloc: Global,
+    line: &str,
+    behind: &str,
+    text: &str,
+    writes: u64,
+) -> Result<u64, AllocError> {
+    let mut faults: u64 = 0;
+    for k in 0..writes {
+        faults = faults.saturating_add(u64::from(write_fails(rt, alloc, line, behind, text, k)?));
+    }
+    Ok(faults)
+}
+
 #[test]
 fn each_failing_read_is_a_fault(rt: HostRuntime) -> Result<(), Fail> {
-    for (line, behind, text, reads, _) in CALLS {
-        for k in 0..reads {
-            let came = came(&rt, rt.alloc(), line, behind, 1000, k, NEVER)?;
-            assert!(rt; is(&came, Outcome::ReadFault, text, 0), "{line}, read {k}");
-        }
+    for (line, behind, _, reads, _) in CALLS {
+        assert!(rt;
+            read_faults(&rt, rt.alloc(), line, behind, reads)? == reads,
+            "{line}"
+        );
     }
     Ok(())
 }
@@ -66,13 +122,10 @@ fn each_failing_read_is_a_fault(rt: HostRuntime) -> Result<(), Fail> {
 #[test]
 fn each_failing_write_is_a_fault_behind_a_front(rt: HostRuntime) -> Result<(), Fail> {
     for (line, behind, text, _, writes) in CALLS {
-        for k in 0..writes {
-            let came = came(&rt, rt.alloc(), line, behind, 1000, NEVER, k)?;
-            assert!(rt;
-                is(&came, Outcome::WriteFault, text, k.saturating_mul(5)),
-                "{line}, write {k}"
-            );
-        }
+        assert!(rt;
+            write_faults(&rt, rt.alloc(), line, behind, text, writes)? == writes,
+            "{line}"
+        );
     }
     Ok(())
 }

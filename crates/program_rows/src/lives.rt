@@ -24,8 +24,37 @@ fn came<R: Threads + Wait + Sync, G: Gate>(
     }
 }
 
-// What comes of a run of the script; none where a check does not say that it is legal, or where its last line tells not as many entries as the
-// board has that is left.
+// Whether the transcript ends with the line of that outcome and so many entries.
+fn is_ended(
+    alloc: Global,
+    transcript: &[u8],
+    outcome: Outcome,
+    entries: u64,
+) -> Result<bool, AllocError> {
+    let word = if outcome == Outcome::Fine {
+        "end"
+    } else {
+        "spent"
+    };
+    let line = format!(in alloc; "{word} {entries}\n")?;
+    Ok(transcript.ends_with(line.as_bytes()))
+}
+
+// Whether a check says that these bytes are a legal run of the script.
+fn is_legal<R: Threads + Wait + Sync>(
+    rt: &R,
+    alloc: Global,
+    script: &[u8],
+    transcript: &[u8],
+) -> Result<bool, AllocError> {
+    let mut both = script.to_vec(alloc)?;
+    both.extend_from_slice(transcript)?;
+    let came = came(rt, alloc, "check", both, &OpenGate)?;
+    Ok(came.sink.bytes() == b"legal\n".as_slice())
+}
+
+// The outcome and the entries of a run of the script; none where a check does not say that it is legal, or where its last line tells not as many
+// entries as the board has that is left.
 fn run<R: Threads + Wait + Sync, G: Gate>(
     rt: &R,
     alloc: Global,
@@ -33,22 +62,12 @@ fn run<R: Threads + Wait + Sync, G: Gate>(
     gate: &G,
 ) -> Result<Option<(Outcome, u64)>, AllocError> {
     let ran = came(rt, alloc, "run", script.to_vec(alloc)?, gate)?;
-    let Some(entries) = ran.entries else {
-        return Ok(None);
-    };
-    let ending = match ran.outcome {
-        Outcome::Fine => format!(in alloc; "end {entries}\n")?,
-        _ => format!(in alloc; "spent {entries}\n")?,
-    };
-    let mut both = script.to_vec(alloc)?;
-    both.extend_from_slice(ran.sink.bytes())?;
-    let verdict = came(rt, alloc, "check", both, &OpenGate)?;
-    if ran.sink.bytes().ends_with(ending.as_bytes())
-        && verdict.sink.bytes() == b"legal\n".as_slice()
-    {
-        Ok(Some((ran.outcome, entries)))
-    } else {
-        Ok(None)
+    let transcript = ran.sink.bytes();
+    match ran.entries {
+        Some(entries)
+            if is_ended(alloc, transcript, ran.outcome, entries)?
+                && is_legal(rt, alloc, script, transcript)? => Ok(Some((ran.outcome, entries))),
+        _ => Ok(None),
     }
 }
 
@@ -99,15 +118,28 @@ const RUNS: [(&str, Option<Spent>, u64); 9] = [
     ),
 ];
 
+// Whether a run of the script is told that limit, or none, and has so many entries.
+fn runs_so<R: Threads + Wait + Sync>(
+    rt: &R,
+    alloc: Global,
+    script: &str,
+    limit: Option<Spent>,
+    entries: u64,
+) -> Result<bool, AllocError> {
+    let outcome = match limit {
+        None => Outcome::Fine,
+        Some(spent) => Outcome::Spent { spent },
+    };
+    Ok(run(rt, alloc, script.as_bytes(), &OpenGate)? == Some((outcome, entries)))
+}
+
 #[test]
 fn runs_leave_their_boards(rt: HostRuntime) -> Result<(), Fail> {
     for (script, limit, entries) in RUNS {
-        let outcome = match limit {
-            None => Outcome::Fine,
-            Some(spent) => Outcome::Spent { spent },
-        };
-        let ran = run(&rt, rt.alloc(), script.as_bytes(), &OpenGate)?;
-        assert!(rt; ran == Some((outcome, entries)), "{script}");
+        assert!(rt;
+            runs_so(&rt, rt.alloc(), script, limit, entries)?,
+            "{script}"
+        );
     }
     Ok(())
 }
