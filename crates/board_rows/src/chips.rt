@@ -1,14 +1,14 @@
 //! The 8259A pair and the I/O APIC: the cascade, spurious cycles, levels, masks, accesses, and a usual start.
 //!
 //! Expected values are those of the 8259A and 82093AA data sheets, and of this board's own rules where these leave a choice.
-use crate::plays::plays;
+use crate::plays::all_play;
 use std::test::Fail;
 
-// The slave's request goes through level 2 of the master, and an acknowledge notifier hears of its end.
-#[test]
-fn the_cascade_and_a_watch(rt: HostRuntime) -> Result<(), Fail> {
-    plays(
-        rt.alloc(),
+// The tables, with their names.
+const TABLES: [(&str, &str); 7] = [
+    // The slave's request goes through level 2 of the master, and an acknowledge notifier hears of its end.
+    (
+        "the_cascade_and_a_watch",
         "
         cpus 1
         cpu0 out 0020 1 11 -> done
@@ -32,14 +32,10 @@ fn the_cascade_and_a_watch(rt: HostRuntime) -> Result<(), Fail> {
         dev0 unwatch 3 8 -> done
         dev0 unwatch 3 8 -> refused 11 not-there
         ",
-    )
-}
-
-// A cycle without a request gives the vector of level 7, and sets no bit in service.
-#[test]
-fn a_spurious_cycle(rt: HostRuntime) -> Result<(), Fail> {
-    plays(
-        rt.alloc(),
+    ),
+    // A cycle without a request gives the vector of level 7, and sets no bit in service.
+    (
+        "a_spurious_cycle",
         "
         cpus 1
         cpu0 out 0020 1 11 -> done
@@ -54,14 +50,10 @@ fn a_spurious_cycle(rt: HostRuntime) -> Result<(), Fail> {
         cpu0 out 0020 1 0b -> done
         cpu0 in 0020 1 -> value 00
         ",
-    )
-}
-
-// A level pin that two lines hold: while one holds it, it is requested again at the end of the interrupt.
-#[test]
-fn a_level_pin_of_two_lines(rt: HostRuntime) -> Result<(), Fail> {
-    plays(
-        rt.alloc(),
+    ),
+    // A level pin that two lines hold: while one holds it, it is requested again at the end of the interrupt.
+    (
+        "a_level_pin_of_two_lines",
         "
         cpus 1
         cpu0 store fee000f0 4 000001ff -> done
@@ -75,14 +67,10 @@ fn a_level_pin_of_two_lines(rt: HostRuntime) -> Result<(), Fail> {
         + acked io 10 gsi 10
         + resent 10 delivered new=1 stood=0 pic=0
         ",
-    )
-}
-
-// A masked edge is lost, and a masked level is sent when its mask goes.
-#[test]
-fn masked_edge_and_level(rt: HostRuntime) -> Result<(), Fail> {
-    plays(
-        rt.alloc(),
+    ),
+    // A masked edge is lost, and a masked level is sent when its mask goes.
+    (
+        "masked_edge_and_level",
         "
         cpus 1
         cpu0 store fee000f0 4 000001ff -> done
@@ -96,14 +84,10 @@ fn masked_edge_and_level(rt: HostRuntime) -> Result<(), Fail> {
         + resent 17 delivered new=1 stood=0 pic=0
         cpu0 ack -> vector 53
         ",
-    )
-}
-
-// A GSI that has a pin of both chips raises both: through LINT0 and by the message of its entry.
-#[test]
-fn a_pin_of_both_chips(rt: HostRuntime) -> Result<(), Fail> {
-    plays(
-        rt.alloc(),
+    ),
+    // A GSI that has a pin of both chips raises both: through LINT0 and by the message of its entry.
+    (
+        "a_pin_of_both_chips",
         "
         cpus 1
         cpu0 out 0020 1 11 -> done
@@ -129,15 +113,11 @@ fn a_pin_of_both_chips(rt: HostRuntime) -> Result<(), Fail> {
         dev0 line 5 1 down -> lowered
         dev0 line 5 0 up -> delivered new=1 stood=0 pic=1
         ",
-    )
-}
-
-// Ports and addresses: each chip answers at its own alone, with its own length; the edge/level registers keep the bits that they have; a
-// length that no access has is refused; what belongs to no chip is the monitor's.
-#[test]
-fn accesses(rt: HostRuntime) -> Result<(), Fail> {
-    plays(
-        rt.alloc(),
+    ),
+    // Ports and addresses: each chip answers at its own alone, with its own length; the edge/level registers keep the bits that they have; a
+    // length that no access has is refused; what belongs to no chip is the monitor's.
+    (
+        "accesses",
         "
         cpus 1
         cpu0 in 0021 1 -> value ff
@@ -159,15 +139,11 @@ fn accesses(rt: HostRuntime) -> Result<(), Fail> {
         cpu0 load fee01000 4 -> exit
         cpu0 store d0000000 4 00000001 -> exit
         ",
-    )
-}
-
-// A usual start, after what a guest kernel and its monitor do: both masks of the 8259A pair are set, LINT0 is masked, timer and
-// messages go through the I/O APIC and by irqfds, and a doorbell rings by an ioeventfd.
-#[test]
-fn a_usual_start(rt: HostRuntime) -> Result<(), Fail> {
-    plays(
-        rt.alloc(),
+    ),
+    // A usual start, after what a guest kernel and its monitor do: both masks of the 8259A pair are set, LINT0 is masked, timer and
+    // messages go through the I/O APIC and by irqfds, and a doorbell rings by an ioeventfd.
+    (
+        "a_usual_start",
         "
         cpus 2
         cpu0 out 0020 1 11 -> done
@@ -204,5 +180,10 @@ fn a_usual_start(rt: HostRuntime) -> Result<(), Fail> {
         cpu0 eoi -> ended 34
         + acked io 4 gsi 4
         ",
-    )
+    ),
+];
+
+#[test]
+fn chips_are_played(rt: HostRuntime) -> Result<(), Fail> {
+    all_play(rt.alloc(), &TABLES)
 }

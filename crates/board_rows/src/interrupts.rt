@@ -2,14 +2,14 @@
 //!
 //! Expected values are those of SDM volume 3: determining IPI destination, lowest priority delivery, interrupt command
 //! register, error handling.
-use crate::plays::plays;
+use crate::plays::all_play;
 use std::test::Fail;
 
-// A message is delivered, given and ended.
-#[test]
-fn a_message(rt: HostRuntime) -> Result<(), Fail> {
-    plays(
-        rt.alloc(),
+// The tables, with their names.
+const TABLES: [(&str, &str); 11] = [
+    // A message is delivered, given and ended.
+    (
+        "a_message",
         "
         cpus 1
         cpu0 store fee000f0 4 000001ff -> done
@@ -19,28 +19,20 @@ fn a_message(rt: HostRuntime) -> Result<(), Fail> {
         cpu0 due nothing
         cpu0 eoi -> ended 41
         ",
-    )
-}
-
-// A local APIC that is not enabled takes nothing.
-#[test]
-fn a_disabled_processor(rt: HostRuntime) -> Result<(), Fail> {
-    plays(
-        rt.alloc(),
+    ),
+    // A local APIC that is not enabled takes nothing.
+    (
+        "a_disabled_processor",
         "
         cpus 1
         cpu0 msi fee00000 00000041 -> ignored no-processor
         cpu0 ack -> nothing
         cpu0 eoi -> nothing
         ",
-    )
-}
-
-// A request that stands is coalesced with the next, and given once.
-#[test]
-fn merging(rt: HostRuntime) -> Result<(), Fail> {
-    plays(
-        rt.alloc(),
+    ),
+    // A request that stands is coalesced with the next, and given once.
+    (
+        "merging",
         "
         cpus 1
         cpu0 store fee000f0 4 000001ff -> done
@@ -49,14 +41,10 @@ fn merging(rt: HostRuntime) -> Result<(), Fail> {
         cpu0 ack -> vector 41
         cpu0 ack -> nothing
         ",
-    )
-}
-
-// Vectors below 10h are illegal, and ESR says so.
-#[test]
-fn the_boundary_of_vectors(rt: HostRuntime) -> Result<(), Fail> {
-    plays(
-        rt.alloc(),
+    ),
+    // Vectors below 10h are illegal, and ESR says so.
+    (
+        "the_boundary_of_vectors",
         "
         cpus 1
         cpu0 store fee000f0 4 000001ff -> done
@@ -66,14 +54,10 @@ fn the_boundary_of_vectors(rt: HostRuntime) -> Result<(), Fail> {
         cpu0 msi fee00000 00000010 -> delivered new=1 stood=0 pic=0
         cpu0 ack -> vector 10
         ",
-    )
-}
-
-// Physical and logical destinations of four processors; one that no processor has; a logical one that all have.
-#[test]
-fn flat_destinations(rt: HostRuntime) -> Result<(), Fail> {
-    plays(
-        rt.alloc(),
+    ),
+    // Physical and logical destinations of four processors; one that no processor has; a logical one that all have.
+    (
+        "flat_destinations",
         "
         cpus 4
         cpu0 store fee000f0 4 000001ff -> done
@@ -91,14 +75,10 @@ fn flat_destinations(rt: HostRuntime) -> Result<(), Fail> {
         dev0 msi feeff000 00000061 -> coalesced stood=f
         cpu3 ack -> vector 61
         ",
-    )
-}
-
-// Lowest priority: the request stays with the processor of least priority, which is another while that one serves.
-#[test]
-fn lowest_priority(rt: HostRuntime) -> Result<(), Fail> {
-    plays(
-        rt.alloc(),
+    ),
+    // Lowest priority: the request stays with the processor of least priority, which is another while that one serves.
+    (
+        "lowest_priority",
         "
         cpus 3
         cpu0 store fee000f0 4 000001ff -> done
@@ -115,14 +95,10 @@ fn lowest_priority(rt: HostRuntime) -> Result<(), Fail> {
         cpu1 ack -> vector 62
         dev0 msi fee07004 00000162 -> delivered new=1 stood=0 pic=0
         ",
-    )
-}
-
-// Destinations in clusters; one that no processor has.
-#[test]
-fn clusters(rt: HostRuntime) -> Result<(), Fail> {
-    plays(
-        rt.alloc(),
+    ),
+    // Destinations in clusters; one that no processor has.
+    (
+        "clusters",
         "
         cpus 2
         cpu0 store fee000f0 4 000001ff -> done
@@ -135,14 +111,10 @@ fn clusters(rt: HostRuntime) -> Result<(), Fail> {
         dev0 msi fee21004 00000063 -> delivered new=2 stood=0 pic=0
         dev0 msi fee31004 00000063 -> ignored no-processor
         ",
-    )
-}
-
-// Interprocessor interrupts: by destination, to all but the sender, and of a mode that no local APIC takes.
-#[test]
-fn interprocessor_interrupts(rt: HostRuntime) -> Result<(), Fail> {
-    plays(
-        rt.alloc(),
+    ),
+    // Interprocessor interrupts: by destination, to all but the sender, and of a mode that no local APIC takes.
+    (
+        "interprocessor_interrupts",
         "
         cpus 2
         cpu0 store fee000f0 4 000001ff -> done
@@ -156,14 +128,10 @@ fn interprocessor_interrupts(rt: HostRuntime) -> Result<(), Fail> {
         cpu0 store fee00300 4 00000500 -> done
         + ipi ignored mode
         ",
-    )
-}
-
-// An NMI is given before all else, by a processor that is not enabled too.
-#[test]
-fn a_nonmaskable_interrupt(rt: HostRuntime) -> Result<(), Fail> {
-    plays(
-        rt.alloc(),
+    ),
+    // An NMI is given before all else, by a processor that is not enabled too.
+    (
+        "a_nonmaskable_interrupt",
         "
         cpus 1
         dev0 msi fee00000 00000400 -> delivered new=1 stood=0 pic=0
@@ -172,14 +140,10 @@ fn a_nonmaskable_interrupt(rt: HostRuntime) -> Result<(), Fail> {
         cpu0 ack -> nmi
         cpu0 ack -> nothing
         ",
-    )
-}
-
-// The shorthands: to the sender alone, to all, and to all but the sender; an NMI by one of them.
-#[test]
-fn shorthands(rt: HostRuntime) -> Result<(), Fail> {
-    plays(
-        rt.alloc(),
+    ),
+    // The shorthands: to the sender alone, to all, and to all but the sender; an NMI by one of them.
+    (
+        "shorthands",
         "
         cpus 2
         cpu0 store fee000f0 4 000001ff -> done
@@ -197,15 +161,11 @@ fn shorthands(rt: HostRuntime) -> Result<(), Fail> {
         cpu0 ack -> nothing
         cpu1 ack -> nmi
         ",
-    )
-}
-
-// An illegal vector is recorded by each processor that is named, and shows in ESR after a write of it; the sender of an interprocessor
-// interrupt records nothing as such, which is this board's own rule.
-#[test]
-fn illegal_vectors(rt: HostRuntime) -> Result<(), Fail> {
-    plays(
-        rt.alloc(),
+    ),
+    // An illegal vector is recorded by each processor that is named, and shows in ESR after a write of it; the sender of an interprocessor
+    // interrupt records nothing as such, which is this board's own rule.
+    (
+        "illegal_vectors",
         "
         cpus 3
         cpu0 store fee000f0 4 000001ff -> done
@@ -222,5 +182,10 @@ fn illegal_vectors(rt: HostRuntime) -> Result<(), Fail> {
         cpu2 store fee00280 4 00000000 -> done
         cpu2 load fee00280 4 -> value 00000000
         ",
-    )
+    ),
+];
+
+#[test]
+fn interrupts_are_played(rt: HostRuntime) -> Result<(), Fail> {
+    all_play(rt.alloc(), &TABLES)
 }

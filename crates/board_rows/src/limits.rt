@@ -1,14 +1,14 @@
 //! Limits: of calls, of publications, of rows and of registrations. They are this board's own rule.
-use crate::plays::plays;
+use crate::plays::{all_play, plays};
 use std::alloc::{AllocError, Global};
 use std::fmt::Write;
 use std::test::Fail;
 
-// The limit of calls bars each call before all else.
-#[test]
-fn no_call_is_left(rt: HostRuntime) -> Result<(), Fail> {
-    plays(
-        rt.alloc(),
+// The tables, with their names.
+const TABLES: [(&str, &str); 4] = [
+    // The limit of calls bars each call before all else.
+    (
+        "no_call_is_left",
         "
         cpus 1
         calls 5
@@ -20,28 +20,20 @@ fn no_call_is_left(rt: HostRuntime) -> Result<(), Fail> {
         cpu0 load fee00030 4 -> spent calls 5
         dev0 take 16 -> spent calls 5
         ",
-    )
-}
-
-// A refused call is a call.
-#[test]
-fn refused_calls_count(rt: HostRuntime) -> Result<(), Fail> {
-    plays(
-        rt.alloc(),
+    ),
+    // A refused call is a call.
+    (
+        "refused_calls_count",
         "
         cpus 1
         calls 1
         dev0 take 16 -> refused 2 no-counter
         dev0 take 0 -> spent calls 1
         ",
-    )
-}
-
-// The limit of publications bars what would change the published words, and nothing else.
-#[test]
-fn no_publication_is_left(rt: HostRuntime) -> Result<(), Fail> {
-    plays(
-        rt.alloc(),
+    ),
+    // The limit of publications bars what would change the published words, and nothing else.
+    (
+        "no_publication_is_left",
         "
         cpus 1
         publications 1
@@ -51,15 +43,11 @@ fn no_publication_is_left(rt: HostRuntime) -> Result<(), Fail> {
         dev0 deassign 0 24 -> spent publications 1
         dev0 write 0 1 -> ignored unrouted
         ",
-    )
-}
-
-// Only what would be a publication is barred: calls that are refused are not, nor is the end of an irqfd that is not there, nor
-// an ioeventfd.
-#[test]
-fn publications(rt: HostRuntime) -> Result<(), Fail> {
-    plays(
-        rt.alloc(),
+    ),
+    // Only what would be a publication is barred: calls that are refused are not, nor is the end of an irqfd that is not there, nor
+    // an ioeventfd.
+    (
+        "publications",
         "
         cpus 1
         publications 0
@@ -75,7 +63,12 @@ fn publications(rt: HostRuntime) -> Result<(), Fail> {
         dev0 detach port c050 1 4 -> done
         dev0 line 5 0 up -> ignored masked
         ",
-    )
+    ),
+];
+
+#[test]
+fn limits_are_played(rt: HostRuntime) -> Result<(), Fail> {
+    all_play(rt.alloc(), &TABLES)
 }
 
 // Lines of 256 acknowledge notifiers that are done, of 16 counters and 16 GSIs.

@@ -11,6 +11,16 @@ pub fn plays(alloc: Global, table: &str) -> Result<(), Fail> {
     }
 }
 
+/// Plays tables with their names, and fails at the first that is not answered so.
+pub fn all_play(alloc: Global, tables: &[(&str, &str)]) -> Result<(), Fail> {
+    for (name, table) in tables {
+        if let Some(fault) = fault_of(alloc, table)? {
+            return Err(Fail::new(format!(in alloc; "{name}: {fault}")?));
+        }
+    }
+    Ok(())
+}
+
 // Whether the table is wrong, with this fault.
 fn is_wrong(alloc: Global, table: &str, fault: &str) -> bool {
     match fault_of(alloc, table) {

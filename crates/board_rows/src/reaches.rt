@@ -1,12 +1,12 @@
 //! Which parts a call reaches, as `Board::reach` tells it before the call. The table of reaches is this board's own.
-use crate::plays::plays;
+use crate::plays::all_play;
 use std::test::Fail;
 
-// Signals reach the chips on which their GSI has pins, and the local APICs of what is sent; a fall sends nothing.
-#[test]
-fn of_signals(rt: HostRuntime) -> Result<(), Fail> {
-    plays(
-        rt.alloc(),
+// The tables, with their names.
+const TABLES: [(&str, &str); 4] = [
+    // Signals reach the chips on which their GSI has pins, and the local APICs of what is sent; a fall sends nothing.
+    (
+        "of_signals",
         "
         cpus 2
         cpu0 store fec00000 4 0000002a -> done
@@ -25,14 +25,10 @@ fn of_signals(rt: HostRuntime) -> Result<(), Fail> {
         dev0 tick reaches tick pic ioapic
         dev0 tickmode on reaches tick
         ",
-    )
-}
-
-// Counters, irqfds and other registrations.
-#[test]
-fn of_registrations(rt: HostRuntime) -> Result<(), Fail> {
-    plays(
-        rt.alloc(),
+    ),
+    // Counters, irqfds and other registrations.
+    (
+        "of_registrations",
         "
         cpus 2
         dev0 reroute 24=msi.fee01000.00000041 5=pic.5 reaches registry pic ioapic
@@ -58,14 +54,10 @@ fn of_registrations(rt: HostRuntime) -> Result<(), Fail> {
         cpu1 out c051 1 00 reaches registry
         cpu1 in c050 1 reaches nothing
         ",
-    )
-}
-
-// A processor's own accesses and acknowledges.
-#[test]
-fn of_processors(rt: HostRuntime) -> Result<(), Fail> {
-    plays(
-        rt.alloc(),
+    ),
+    // A processor's own accesses and acknowledges.
+    (
+        "of_processors",
         "
         cpus 2
         cpu0 store fee000f0 4 000001ff -> done
@@ -86,14 +78,10 @@ fn of_processors(rt: HostRuntime) -> Result<(), Fail> {
         cpu0 store fee00350 4 00010700 -> done
         cpu0 ack reaches lapic0
         ",
-    )
-}
-
-// The end of an interrupt whose GSI is marked reaches all that an acknowledge may tell, and whom a level is sent to again.
-#[test]
-fn of_marked_acknowledges(rt: HostRuntime) -> Result<(), Fail> {
-    plays(
-        rt.alloc(),
+    ),
+    // The end of an interrupt whose GSI is marked reaches all that an acknowledge may tell, and whom a level is sent to again.
+    (
+        "of_marked_acknowledges",
         "
         cpus 2
         cpu0 out 0020 1 11 -> done
@@ -123,5 +111,10 @@ fn of_marked_acknowledges(rt: HostRuntime) -> Result<(), Fail> {
         cpu0 store fec00010 4 00000000 -> done
         cpu1 eoi reaches ioapic lapic0 lapic1
         ",
-    )
+    ),
+];
+
+#[test]
+fn reaches_are_played(rt: HostRuntime) -> Result<(), Fail> {
+    all_play(rt.alloc(), &TABLES)
 }

@@ -1,14 +1,14 @@
 //! Refusals, in the order in which they are tried: of the arguments' range, and then the later ones; each leaves the board as it was.
 //!
 //! The order, and which of them there are, is this board's own rule.
-use crate::plays::plays;
+use crate::plays::all_play;
 use std::test::Fail;
 
-// Lines: no such GSI, and then no such line. No pin is raised.
-#[test]
-fn of_lines(rt: HostRuntime) -> Result<(), Fail> {
-    plays(
-        rt.alloc(),
+// The tables, with their names.
+const TABLES: [(&str, &str); 9] = [
+    // Lines: no such GSI, and then no such line. No pin is raised.
+    (
+        "of_lines",
         "
         cpus 1
         cpu0 out 04d0 1 60 -> done
@@ -20,14 +20,10 @@ fn of_lines(rt: HostRuntime) -> Result<(), Fail> {
         dev0 line 5 8 down -> refused 16 no-line
         cpu0 in 0020 1 -> value 20
         ",
-    )
-}
-
-// Messages: an address that is not that of a message. Nothing is requested.
-#[test]
-fn of_messages(rt: HostRuntime) -> Result<(), Fail> {
-    plays(
-        rt.alloc(),
+    ),
+    // Messages: an address that is not that of a message. Nothing is requested.
+    (
+        "of_messages",
         "
         cpus 1
         cpu0 store fee000f0 4 000001ff -> done
@@ -36,14 +32,10 @@ fn of_messages(rt: HostRuntime) -> Result<(), Fail> {
         dev0 msi 1fee00000 00000041 -> refused 17 bad-msi
         cpu0 ack -> nothing
         ",
-    )
-}
-
-// Counts: no such counter, a count that no counter holds, and then one that is too much. The count stays.
-#[test]
-fn of_counts(rt: HostRuntime) -> Result<(), Fail> {
-    plays(
-        rt.alloc(),
+    ),
+    // Counts: no such counter, a count that no counter holds, and then one that is too much. The count stays.
+    (
+        "of_counts",
         "
         cpus 1
         dev0 write 16 18446744073709551615 -> refused 2 no-counter
@@ -55,15 +47,11 @@ fn of_counts(rt: HostRuntime) -> Result<(), Fail> {
         dev0 take 16 -> refused 2 no-counter
         dev0 take 7 -> count 18446744073709551614
         ",
-    )
-}
-
-// irqfds: no such counter as trigger, no such GSI, no such counter to resample; then a trigger that is taken, and counters in two
-// roles. None of these is there afterwards.
-#[test]
-fn of_irqfds(rt: HostRuntime) -> Result<(), Fail> {
-    plays(
-        rt.alloc(),
+    ),
+    // irqfds: no such counter as trigger, no such GSI, no such counter to resample; then a trigger that is taken, and counters in two
+    // roles. None of these is there afterwards.
+    (
+        "of_irqfds",
         "
         cpus 1
         dev0 assign 16 4096 resample 16 -> refused 2 no-counter
@@ -85,15 +73,11 @@ fn of_irqfds(rt: HostRuntime) -> Result<(), Fail> {
         dev0 deassign 0 4096 -> refused 1 no-gsi
         dev0 deassign 0 24 -> removed 1
         ",
-    )
-}
-
-// Rows of a table, in their order, each by the first of these that fits it: no such GSI, no such pin, no address of a message, a second
-// pin of a chip, a message beside another row, a pin that an earlier row names. The table stays.
-#[test]
-fn of_rows(rt: HostRuntime) -> Result<(), Fail> {
-    plays(
-        rt.alloc(),
+    ),
+    // Rows of a table, in their order, each by the first of these that fits it: no such GSI, no such pin, no address of a message, a second
+    // pin of a chip, a message beside another row, a pin that an earlier row names. The table stays.
+    (
+        "of_rows",
         "
         cpus 1
         cpu0 out 04d0 1 60 -> done
@@ -117,15 +101,11 @@ fn of_rows(rt: HostRuntime) -> Result<(), Fail> {
         dev0 reroute -> done
         dev0 line 9 0 down -> ignored unrouted
         ",
-    )
-}
-
-// ioeventfds: no range, no such counter, the address of a chip, and then one that collides with one that is there. None of these is
-// there afterwards.
-#[test]
-fn of_ioeventfds(rt: HostRuntime) -> Result<(), Fail> {
-    plays(
-        rt.alloc(),
+    ),
+    // ioeventfds: no range, no such counter, the address of a chip, and then one that collides with one that is there. None of these is
+    // there afterwards.
+    (
+        "of_ioeventfds",
         "
         cpus 1
         dev0 attach port 0020 3 16 -> refused 12 bad-range
@@ -158,14 +138,10 @@ fn of_ioeventfds(rt: HostRuntime) -> Result<(), Fail> {
         dev0 detach port c050 2 4 match 0001 -> done
         dev0 detach port c050 2 4 match 0001 -> refused 11 not-there
         ",
-    )
-}
-
-// Acknowledge notifiers: no such counter, no such GSI, a counter that is a trigger, and one that is there.
-#[test]
-fn of_watches(rt: HostRuntime) -> Result<(), Fail> {
-    plays(
-        rt.alloc(),
+    ),
+    // Acknowledge notifiers: no such counter, no such GSI, a counter that is a trigger, and one that is there.
+    (
+        "of_watches",
         "
         cpus 1
         cpu0 out 0020 1 11 -> done
@@ -192,14 +168,10 @@ fn of_watches(rt: HostRuntime) -> Result<(), Fail> {
         + watched 3
         dev0 take 3 -> count 1
         ",
-    )
-}
-
-// Accesses: a length that no access of the space has, or a value that does not fit it. No register is written.
-#[test]
-fn of_accesses(rt: HostRuntime) -> Result<(), Fail> {
-    plays(
-        rt.alloc(),
+    ),
+    // Accesses: a length that no access of the space has, or a value that does not fit it. No register is written.
+    (
+        "of_accesses",
         "
         cpus 1
         cpu0 out 0021 3 000000 -> refused 12 bad-range
@@ -214,14 +186,10 @@ fn of_accesses(rt: HostRuntime) -> Result<(), Fail> {
         cpu0 load fee00080 16 -> refused 12 bad-range
         cpu0 store d0000000 8 ffffffffffffffff -> exit
         ",
-    )
-}
-
-// Tables and arguments that are refused, one after another; the table stands until one is taken that has no rows.
-#[test]
-fn of_tables_and_arguments(rt: HostRuntime) -> Result<(), Fail> {
-    plays(
-        rt.alloc(),
+    ),
+    // Tables and arguments that are refused, one after another; the table stands until one is taken that has no rows.
+    (
+        "of_tables_and_arguments",
         "
         cpus 1
         dev0 reroute 9=io.9 9=io.10 -> refused 4 chip-twice
@@ -236,5 +204,10 @@ fn of_tables_and_arguments(rt: HostRuntime) -> Result<(), Fail> {
         dev0 msi fed00000 00000041 -> refused 17 bad-msi
         dev0 take 16 -> refused 2 no-counter
         ",
-    )
+    ),
+];
+
+#[test]
+fn refusals_are_played(rt: HostRuntime) -> Result<(), Fail> {
+    all_play(rt.alloc(), &TABLES)
 }

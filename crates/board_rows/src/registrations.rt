@@ -1,14 +1,14 @@
 //! Registrations: irqfds and their resamplers, reroutes, ioeventfds, counters and their roles.
 //!
 //! Expected values are those of the KVM API (KVM_IRQFD, KVM_IOEVENTFD, KVM_SET_GSI_ROUTING) and of eventfd(2).
-use crate::plays::plays;
+use crate::plays::all_play;
 use std::test::Fail;
 
-// Both resamplers of a GSI are signalled at its acknowledge.
-#[test]
-fn two_resamplers(rt: HostRuntime) -> Result<(), Fail> {
-    plays(
-        rt.alloc(),
+// The tables, with their names.
+const TABLES: [(&str, &str); 7] = [
+    // Both resamplers of a GSI are signalled at its acknowledge.
+    (
+        "two_resamplers",
         "
         cpus 1
         cpu0 store fee000f0 4 000001ff -> done
@@ -26,14 +26,10 @@ fn two_resamplers(rt: HostRuntime) -> Result<(), Fail> {
         dev0 take 3 -> count 1
         dev0 take 1 -> empty
         ",
-    )
-}
-
-// The level is held until the last resampler of the GSI ends. Pin 3 of the slave is level, and its request is read back.
-#[test]
-fn deassign_while_the_level_is_held(rt: HostRuntime) -> Result<(), Fail> {
-    plays(
-        rt.alloc(),
+    ),
+    // The level is held until the last resampler of the GSI ends. Pin 3 of the slave is level, and its request is read back.
+    (
+        "deassign_while_the_level_is_held",
         "
         cpus 1
         cpu0 out 04d1 1 08 -> done
@@ -49,14 +45,10 @@ fn deassign_while_the_level_is_held(rt: HostRuntime) -> Result<(), Fail> {
         dev0 take 0 -> count 5
         dev0 deassign 0 11 -> removed 0
         ",
-    )
-}
-
-// A reroute under a raised line lets go of the pins whose GSI moves, and raises nothing.
-#[test]
-fn a_reroute_under_a_raised_line(rt: HostRuntime) -> Result<(), Fail> {
-    plays(
-        rt.alloc(),
+    ),
+    // A reroute under a raised line lets go of the pins whose GSI moves, and raises nothing.
+    (
+        "a_reroute_under_a_raised_line",
         "
         cpus 1
         cpu0 out 04d0 1 60 -> done
@@ -67,14 +59,10 @@ fn a_reroute_under_a_raised_line(rt: HostRuntime) -> Result<(), Fail> {
         dev0 line 5 0 down -> lowered
         cpu0 in 0020 1 -> value 00
         ",
-    )
-}
-
-// ioeventfds: one with a match, those that are refused, and writes that fit and that do not.
-#[test]
-fn ioevents(rt: HostRuntime) -> Result<(), Fail> {
-    plays(
-        rt.alloc(),
+    ),
+    // ioeventfds: one with a match, those that are refused, and writes that fit and that do not.
+    (
+        "ioevents",
         "
         cpus 1
         dev0 attach port c050 2 4 match 0001 -> done
@@ -89,14 +77,10 @@ fn ioevents(rt: HostRuntime) -> Result<(), Fail> {
         dev0 detach port c050 2 4 match 0001 -> done
         cpu0 out c050 2 0001 -> exit
         ",
-    )
-}
-
-// An ioeventfd whose counter is a trigger, counters in two roles, and the greatest count.
-#[test]
-fn triggers_roles_and_counts(rt: HostRuntime) -> Result<(), Fail> {
-    plays(
-        rt.alloc(),
+    ),
+    // An ioeventfd whose counter is a trigger, counters in two roles, and the greatest count.
+    (
+        "triggers_roles_and_counts",
         "
         cpus 1
         cpu0 store fee000f0 4 000001ff -> done
@@ -116,14 +100,10 @@ fn triggers_roles_and_counts(rt: HostRuntime) -> Result<(), Fail> {
         dev0 take 7 -> count 18446744073709551614
         dev0 take 7 -> empty
         ",
-    )
-}
-
-// A count that an irqfd finds at its trigger injects once, and a write of 0 gives no signal.
-#[test]
-fn a_count_before_the_irqfd(rt: HostRuntime) -> Result<(), Fail> {
-    plays(
-        rt.alloc(),
+    ),
+    // A count that an irqfd finds at its trigger injects once, and a write of 0 gives no signal.
+    (
+        "a_count_before_the_irqfd",
         "
         cpus 1
         dev0 write 0 3 -> done
@@ -133,14 +113,10 @@ fn a_count_before_the_irqfd(rt: HostRuntime) -> Result<(), Fail> {
         dev0 write 0 0 -> done
         dev0 take 0 -> empty
         ",
-    )
-}
-
-// A counter that stands at the greatest count stays there when it is signalled, and the event is told.
-#[test]
-fn a_full_counter_that_is_signalled(rt: HostRuntime) -> Result<(), Fail> {
-    plays(
-        rt.alloc(),
+    ),
+    // A counter that stands at the greatest count stays there when it is signalled, and the event is told.
+    (
+        "a_full_counter_that_is_signalled",
         "
         cpus 1
         dev0 attach port c050 1 4 -> done
@@ -149,5 +125,10 @@ fn a_full_counter_that_is_signalled(rt: HostRuntime) -> Result<(), Fail> {
         + rang 4
         dev0 take 4 -> count 18446744073709551614
         ",
-    )
+    ),
+];
+
+#[test]
+fn registrations_are_played(rt: HostRuntime) -> Result<(), Fail> {
+    all_play(rt.alloc(), &TABLES)
 }

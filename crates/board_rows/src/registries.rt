@@ -1,16 +1,16 @@
 //! Counters, irqfds, ioeventfds, acknowledge notifiers and the routing table, through the calls on a board: limits at both ends, and what rings what.
 //!
 //! Expected values are those of eventfd(2) and of the KVM API (KVM_IRQFD, KVM_IOEVENTFD, KVM_SET_GSI_ROUTING).
-use crate::plays::plays;
+use crate::plays::{all_play, plays};
 use std::alloc::{AllocError, Global};
 use std::fmt::Write;
 use std::test::Fail;
 
-// eventfd(2): a write that would pass 2^64 - 2 is refused and changes nothing, a signal leaves the greatest count, and a read takes the whole count.
-#[test]
-fn counts(rt: HostRuntime) -> Result<(), Fail> {
-    plays(
-        rt.alloc(),
+// The tables, with their names.
+const TABLES: [(&str, &str); 7] = [
+    // eventfd(2): a write that would pass 2^64 - 2 is refused and changes nothing, a signal leaves the greatest count, and a read takes the whole count.
+    (
+        "counts",
         "
         cpus 1
         dev0 attach port c050 1 0 -> done
@@ -29,14 +29,10 @@ fn counts(rt: HostRuntime) -> Result<(), Fail> {
         dev0 take 1 -> count 5
         dev0 take 2 -> empty
         ",
-    )
-}
-
-// Two resamplers on one GSI, and an irqfd on another: each ends by its trigger and its GSI, once; a counter of no irqfd keeps its count.
-#[test]
-fn irqfds_end(rt: HostRuntime) -> Result<(), Fail> {
-    plays(
-        rt.alloc(),
+    ),
+    // Two resamplers on one GSI, and an irqfd on another: each ends by its trigger and its GSI, once; a counter of no irqfd keeps its count.
+    (
+        "irqfds_end",
         "
         cpus 1
         counters 256
@@ -57,14 +53,10 @@ fn irqfds_end(rt: HostRuntime) -> Result<(), Fail> {
         dev0 deassign 255 11 -> removed 0
         dev0 write 5 1 -> ignored unrouted
         ",
-    )
-}
-
-// Whether a second ioeventfd at an address collides, by lengths and matches; length 0 collides with each of its space.
-#[test]
-fn ioeventfds_collide(rt: HostRuntime) -> Result<(), Fail> {
-    plays(
-        rt.alloc(),
+    ),
+    // Whether a second ioeventfd at an address collides, by lengths and matches; length 0 collides with each of its space.
+    (
+        "ioeventfds_collide",
         "
         cpus 1
         dev0 attach port c050 2 4 match 0001 -> done
@@ -123,14 +115,10 @@ fn ioeventfds_collide(rt: HostRuntime) -> Result<(), Fail> {
         dev0 detach port c050 0 4 -> done
         dev0 detach mem 0000c050 0 5 -> done
         ",
-    )
-}
-
-// A write rings the ioeventfd of its space, address, length and value.
-#[test]
-fn ioeventfds_ring(rt: HostRuntime) -> Result<(), Fail> {
-    plays(
-        rt.alloc(),
+    ),
+    // A write rings the ioeventfd of its space, address, length and value.
+    (
+        "ioeventfds_ring",
         "
         cpus 1
         dev0 attach mem d0000000 0 6 -> done
@@ -158,14 +146,10 @@ fn ioeventfds_ring(rt: HostRuntime) -> Result<(), Fail> {
         cpu0 out c050 2 0003 -> done
         + rang 7
         ",
-    )
-}
-
-// An acknowledge signals the resample counters of its GSI and no other, in order of registration.
-#[test]
-fn resamplers_in_order(rt: HostRuntime) -> Result<(), Fail> {
-    plays(
-        rt.alloc(),
+    ),
+    // An acknowledge signals the resample counters of its GSI and no other, in order of registration.
+    (
+        "resamplers_in_order",
         "
         cpus 1
         cpu0 store fee000f0 4 000001ff -> done
@@ -185,14 +169,10 @@ fn resamplers_in_order(rt: HostRuntime) -> Result<(), Fail> {
         dev0 take 2 -> empty
         dev0 take 3 -> count 1
         ",
-    )
-}
-
-// An acknowledge signals the counter of each notifier of its GSI and no other, in order of registration.
-#[test]
-fn notifiers_in_order(rt: HostRuntime) -> Result<(), Fail> {
-    plays(
-        rt.alloc(),
+    ),
+    // An acknowledge signals the counter of each notifier of its GSI and no other, in order of registration.
+    (
+        "notifiers_in_order",
         "
         cpus 1
         cpu0 out 0020 1 11 -> done
@@ -216,14 +196,10 @@ fn notifiers_in_order(rt: HostRuntime) -> Result<(), Fail> {
         dev0 take 2 -> empty
         dev0 take 3 -> count 1
         ",
-    )
-}
-
-// Each refusal of rows, the earlier of two faulty rows, and within a row the first cause. The table at power-on stays: GSIs 5 and 9 go to both chips.
-#[test]
-fn rows_are_refused(rt: HostRuntime) -> Result<(), Fail> {
-    plays(
-        rt.alloc(),
+    ),
+    // Each refusal of rows, the earlier of two faulty rows, and within a row the first cause. The table at power-on stays: GSIs 5 and 9 go to both chips.
+    (
+        "rows_are_refused",
         "
         cpus 1
         dev0 reroute 9=io.9 9=io.10 -> refused 4 chip-twice
@@ -278,7 +254,12 @@ fn rows_are_refused(rt: HostRuntime) -> Result<(), Fail> {
         dev0 line 5 0 up reaches pic ioapic
         dev0 line 9 0 up reaches pic ioapic
         ",
-    )
+    ),
+];
+
+#[test]
+fn registries_are_played(rt: HostRuntime) -> Result<(), Fail> {
+    all_play(rt.alloc(), &TABLES)
 }
 
 // A board with 256 notifiers of one counter.

@@ -1,12 +1,12 @@
 //! Ticks and their reinjection, after KVM's reinjection of the 8254's ticks; the rules are this board's own.
-use crate::plays::plays;
+use crate::plays::all_play;
 use std::test::Fail;
 
-// Ticks that fall while one is outstanding are held back, and each acknowledge injects the next.
-#[test]
-fn ticks_are_reinjected(rt: HostRuntime) -> Result<(), Fail> {
-    plays(
-        rt.alloc(),
+// The tables, with their names.
+const TABLES: [(&str, &str); 4] = [
+    // Ticks that fall while one is outstanding are held back, and each acknowledge injects the next.
+    (
+        "ticks_are_reinjected",
         "
         cpus 1
         cpu0 out 0020 1 11 -> done
@@ -31,28 +31,20 @@ fn ticks_are_reinjected(rt: HostRuntime) -> Result<(), Fail> {
         cpu0 out 0020 1 20 -> done
         + acked pic 0 gsi 0
         ",
-    )
-}
-
-// Ticks on a masked pin are ignored, none being outstanding.
-#[test]
-fn ticks_on_a_masked_pin(rt: HostRuntime) -> Result<(), Fail> {
-    plays(
-        rt.alloc(),
+    ),
+    // Ticks on a masked pin are ignored, none being outstanding.
+    (
+        "ticks_on_a_masked_pin",
         "
         cpus 1
         dev0 tick -> ignored masked
         dev0 tick -> ignored masked
         dev0 tick -> ignored masked
         ",
-    )
-}
-
-// Without reinjection each tick is injected, and an acknowledge injects nothing.
-#[test]
-fn ticks_without_reinjection(rt: HostRuntime) -> Result<(), Fail> {
-    plays(
-        rt.alloc(),
+    ),
+    // Without reinjection each tick is injected, and an acknowledge injects nothing.
+    (
+        "ticks_without_reinjection",
         "
         cpus 1
         cpu0 out 0020 1 11 -> done
@@ -71,14 +63,10 @@ fn ticks_without_reinjection(rt: HostRuntime) -> Result<(), Fail> {
         dev0 tick -> delivered new=0 stood=0 pic=1
         dev0 tick -> held 2
         ",
-    )
-}
-
-// The header names another GSI for the tick, which the I/O APIC takes.
-#[test]
-fn a_tick_on_another_gsi(rt: HostRuntime) -> Result<(), Fail> {
-    plays(
-        rt.alloc(),
+    ),
+    // The header names another GSI for the tick, which the I/O APIC takes.
+    (
+        "a_tick_on_another_gsi",
         "
         cpus 1
         tick 20
@@ -92,5 +80,10 @@ fn a_tick_on_another_gsi(rt: HostRuntime) -> Result<(), Fail> {
         + acked io 20 gsi 20
         + injected gsi 20 delivered new=1 stood=0 pic=0
         ",
-    )
+    ),
+];
+
+#[test]
+fn ticks_are_played(rt: HostRuntime) -> Result<(), Fail> {
+    all_play(rt.alloc(), &TABLES)
 }

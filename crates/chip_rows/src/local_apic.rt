@@ -74,6 +74,25 @@ fn first_wrong(lapic: &mut Lapic, steps: &[Step]) -> Option<usize> {
     None
 }
 
+// The place of the first step that a local APIC at power-on does not answer as it is told.
+fn first_unlike(number: u8, steps: &[Step]) -> Option<usize> {
+    let mut lapic = Lapic::power_on(u16::from(number));
+    first_wrong(&mut lapic, steps)
+}
+
+// Whether a local APIC at power-on has that LINT0, and what a destination is compared with.
+fn starts_so(number: u8, lint0: u32) -> bool {
+    let lapic = Lapic::power_on(u16::from(number));
+    let view = DestView {
+        number: u16::from(number),
+        enabled: false,
+        ldr: 0,
+        dfr: 0xffff_ffff,
+        ppr: 0,
+    };
+    lapic.lint0() == lint0 && lapic.dest_view() == view
+}
+
 // Every register at power-on, of processors 0 and 5: the identity in bits 31 to 24, and LINT0 of mode ExtINT on processor 0
 // alone. Offsets between registers, offset 40h, and offsets from 380h on are no registers here and read 0.
 #[test]
@@ -114,19 +133,10 @@ fn power_on(rt: HostRuntime) -> Result<(), Fail> {
         Edge(0x41, Accepted::Disabled),
     ];
     for (number, identity, lint0) in [(0, 0, 0x0000_0700), (5, 0x0500_0000, 0x0001_0000)] {
-        let mut lapic = Lapic::power_on(number);
-        assert_eq!(rt; first_wrong(&mut lapic, &steps), None);
         let own = [Load(0x20, identity), Load(0x350, lint0)];
-        assert_eq!(rt; first_wrong(&mut lapic, &own), None);
-        assert!(rt; lapic.lint0() == lint0);
-        let view = DestView {
-            number,
-            enabled: false,
-            ldr: 0,
-            dfr: 0xffff_ffff,
-            ppr: 0,
-        };
-        assert!(rt; lapic.dest_view() == view);
+        assert_eq!(rt; first_unlike(number, &steps), None);
+        assert_eq!(rt; first_unlike(number, &own), None);
+        assert!(rt; starts_so(number, lint0));
     }
     Ok(())
 }

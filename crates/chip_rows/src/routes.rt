@@ -84,27 +84,63 @@ fn routes_at_power_on(rt: HostRuntime) -> Result<(), Fail> {
     Ok(())
 }
 
-// One row alone; 4,096 rows, a copy of their table, and then none.
-#[test]
-fn routes_that_are_replaced(rt: HostRuntime) -> Result<(), Fail> {
-    let one = replaced(rt.alloc(), &[pic(5, 6)])?;
-    assert!(rt;
-        targets(&one, 5) == Some(pins(Some(6), None)) && targets(&one, 6) == Some(pins(None, None))
-    );
-    assert!(rt; owners(&one, 6) == (Some(5), None) && owners(&one, 5) == (None, None));
-    let mut list = Vec::new(rt.alloc());
+// Where a GSI goes, and the GSIs of the pins of a number.
+type Shown = (Option<Targets>, (Option<u16>, Option<u16>));
+
+fn shown(table: &Table, gsi: u16, pin: u8) -> Shown {
+    (targets(table, gsi), owners(table, pin))
+}
+
+// What a table of one row shows.
+fn by_one_row(alloc: Global) -> Result<[Shown; 2], Fail> {
+    let one = replaced(alloc, &[pic(5, 6)])?;
+    Ok([shown(&one, 5, 6), shown(&one, 6, 5)])
+}
+
+// A table of 4,096 rows.
+fn messages(alloc: Global) -> Result<Table, Fail> {
+    let mut list = Vec::new(alloc);
     for gsi in 0..4096 {
         list.push(msi(gsi, 0xfee0_0000))?;
     }
-    let mut table = replaced(rt.alloc(), list.as_slice())?;
-    let mut copy = Table::power_on(rt.alloc())?;
-    copy.copy_from(&table);
-    let none = rows_of(rt.alloc(), &[])?;
-    let done = table.replace(&none);
-    let word = message(0xfee0_0000, 0x41);
-    assert!(rt; done == Ok(()) && targets(&table, 4095) == Some(pins(None, None)));
-    assert!(rt; targets(&copy, 0) == Some(word) && targets(&copy, 4095) == Some(word));
-    assert!(rt; owners(&copy, 0) == (None, None));
+    replaced(alloc, list.as_slice())
+}
+
+fn copy_of(alloc: Global, table: &Table) -> Result<Table, Fail> {
+    let mut copy = Table::power_on(alloc)?;
+    copy.copy_from(table);
+    Ok(copy)
+}
+
+// Whether the table is replaced by no rows.
+fn is_cleared(alloc: Global, table: &mut Table) -> Result<bool, Fail> {
+    let none = rows_of(alloc, &[])?;
+    Ok(table.replace(&none) == Ok(()))
+}
+
+// What the copy of such a table shows, and then the table itself, which is cleared.
+fn by_messages(alloc: Global) -> Result<[Shown; 3], Fail> {
+    let mut table = messages(alloc)?;
+    let copy = copy_of(alloc, &table)?;
+    if !is_cleared(alloc, &mut table)? {
+        return Err(Fail::from("refused"));
+    }
+    Ok([
+        shown(&copy, 0, 0),
+        shown(&copy, 4095, 23),
+        shown(&table, 4095, 23),
+    ])
+}
+
+// One row alone; 4,096 rows, a copy of their table, and then none.
+#[test]
+fn routes_that_are_replaced(rt: HostRuntime) -> Result<(), Fail> {
+    let nobody = (None, None);
+    let none = Some(pins(None, None));
+    let one = Some(pins(Some(6), None));
+    assert!(rt; by_one_row(rt.alloc())? == [(one, (Some(5), None)), (none, nobody)]);
+    let word = Some(message(0xfee0_0000, 0x41));
+    assert!(rt; by_messages(rt.alloc())? == [(word, nobody), (word, nobody), (none, nobody)]);
     Ok(())
 }
 
