@@ -1,11 +1,11 @@
 -- No request is lost, and each that merges finds one pending.
-use Rattle.std.proofs.Common.{◌≡◌, ℕ, zero, suc, ◌+◌, ◌/◌, ◌<◌, ◌≤◌, Bool, true, false, not, ◌&&◌, nat_eq, nat_lt, if◌then◌else◌, List, [], ◌∷◌, ◌++◌, length, get_or, set, slice_set, replicate, sum_by, count_by, cond, Ok, Err, refl, sym, ap, ◌∙◌, arith, length-set}
+use Rattle.std.proofs.Common.{◌≡◌, ℕ, zero, suc, ◌+◌, ◌/◌, ◌<◌, ◌≤◌, Bool, true, false, not, ◌&&◌, nat_eq, nat_lt, if◌then◌else◌, List, [], ◌∷◌, length, get_or, set, slice_set, replicate, sum_by, count_by, cond, Ok, Err, refl, sym, ap, ◌∙◌, arith, length-set}
 use Rattle.std.proofs.lemmas.Bool.Decides.{nat_tests}
 use Rattle.std.proofs.lemmas.List.Sums.{sum_by-cons, sum_by-append}
 use Rattle.std.specs.declared.result.Result.{Result}
 use Rattle.irq_base.specs.declared.reply.Spent.{Spent}
-use Rattle.msix_function.specs.Balance.{one_if, is_fire, is_merge, sent_in, sent_for, Lead, IsBalanced}
-use Rattle.msix_function.specs.Functions.{IsAtPowerOn, entry_at, is_pending_at, is_held, is_due, pended, all_cleared, stored, controlled}
+use Rattle.msix_function.specs.Balance.{one_if, is_fire, is_merge, sent_for, Lead, IsBalanced}
+use Rattle.msix_function.specs.Functions.{IsAtPowerOn, entry_at, is_pending_at, is_held, is_due, pended, stored, controlled}
 use Rattle.msix_function.specs.Operations.{Sending, Operation, fire, store, control, numbers_in, Fires, SendsDue, IsStep}
 use Rattle.msix_function.specs.declared.fired.Fired.{Fired}
 use Rattle.msix_function.specs.declared.fired.Fired.TheVariants.{Off, Merged, Pended, Sent}

@@ -1,10 +1,9 @@
 -- The entries that are due are sent one after another.
-use Rattle.std.proofs.Common.{◌≡◌, ℕ, zero, suc, ◌+◌, ◌-◌, ◌<◌, ◌≤◌, Bool, true, false, not, ◌&&◌, List, [], ◌∷◌, ◌++◌, length, map, filter, All, Some, None, Ok, Err, IfSome, IsOk, refl, sym, ap, ◌∙◌, subst, arith, length-append}
+use Rattle.std.proofs.Common.{◌≡◌, ℕ, ◌+◌, ◌-◌, ◌<◌, ◌≤◌, true, false, not, ◌&&◌, List, [], ◌∷◌, ◌++◌, length, filter, Some, None, Ok, Err, IfSome, refl, sym, ap, ◌∙◌, subst, arith, length-append}
 use Rattle.std.proofs.lemmas.Bool.{true≢false}
 use Rattle.std.proofs.lemmas.List.{append-nil, map-append, length-map}
 use Rattle.std.proofs.lemmas.List.Elements.{All-nil, All-cons, All-append}
 use Rattle.std.specs.declared.option.Option.{Option}
-use Rattle.std.specs.declared.result.Result.{Result}
 use Rattle.std.specs.List.{range_with_len}
 use Rattle.irq_base.specs.Faces.{PlacedEntry, WhereTold, Rose, may_publish}
 use Rattle.irq_base.specs.declared.call.Call.{Call}
@@ -12,13 +11,12 @@ use Rattle.irq_base.specs.declared.event.Event.{Event}
 use Rattle.irq_base.specs.declared.face.Face.{Ghosts}
 use Rattle.irq_base.specs.declared.reply.Done.{Done}
 use Rattle.irq_base.specs.declared.reply.Spent.{Spent}
-use Rattle.face_asks.specs.Asks.{HasAnswered, StopTold, IsAnswered, events_after, limit_in}
+use Rattle.face_asks.specs.Asks.{HasAnswered, StopTold, IsAnswered, events_after}
 use Rattle.face_asks.proofs.Told.{answered_none, answered_then, events_then}
 use Rattle.msix_function.specs.Balance.{one_if}
 use Rattle.msix_function.specs.Calls.{Operates, SendsAll}
 use Rattle.msix_function.specs.Functions.{message_at, is_pending_at, is_held, is_due, due, pended, cleared, all_cleared}
-use Rattle.msix_function.specs.Operations.{Sending, Operation, fire, SendsDue, AnswersSent, AreMessages, call_of, can_send, numbers_in, calls_in}
-use Rattle.msix_function.specs.declared.fired.Fired.{Fired}
+use Rattle.msix_function.specs.Operations.{Sending, fire, AreMessages, call_of, can_send, numbers_in, calls_in}
 use Rattle.msix_function.specs.declared.fired.Fired.TheVariants.{Sent}
 use Rattle.msix_function.specs.declared.function.Function.{Function}
 use Rattle.msix_function.proofs.Cleared.{is_in, due_still, cleared_next, all_cleared_is}

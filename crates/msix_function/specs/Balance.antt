@@ -1,11 +1,8 @@
 -- Over every list of operations no request is lost, and one merges only while another is pending.
-use Rattle.std.specs.Prelude.{◌≡◌, ℕ, ◌+◌, Bool, true, false, nat_eq, if◌then◌else◌, List, [], ◌∷◌, sum_by, count_by, Ok, Err}
-use Rattle.std.specs.declared.result.Result.{Result}
-use Rattle.irq_base.specs.declared.reply.Spent.{Spent}
+use Rattle.std.specs.Prelude.{◌≡◌, ℕ, ◌+◌, Bool, false, nat_eq, if◌then◌else◌, List, [], ◌∷◌, sum_by, count_by, Ok}
 use Rattle.msix_function.specs.Functions.{is_pending_at}
 use Rattle.msix_function.specs.Operations.{Sending, Operation, fire, store, control, numbers_in, IsStep}
-use Rattle.msix_function.specs.declared.fired.Fired.{Fired}
-use Rattle.msix_function.specs.declared.fired.Fired.TheVariants.{Off, Merged, Pended, Sent}
+use Rattle.msix_function.specs.declared.fired.Fired.TheVariants.{Off, Merged}
 use Rattle.msix_function.specs.declared.function.Function.{Function}
 
 -- 1 where it is so

@@ -1,6 +1,5 @@
 -- An operation of an MSI-X function over a face (this board's own rule).
-use Rattle.std.specs.Prelude.{◌≡◌, ℕ, ◌≤◌, Bool, if◌then◌else◌, List, length, None, IfSome, IfErr}
-use Rattle.std.specs.declared.option.Option.{Option}
+use Rattle.std.specs.Prelude.{◌≡◌, ℕ, ◌≤◌, List, length, None, IfSome, IfErr}
 use Rattle.std.specs.declared.result.Result.{Result}
 use Rattle.face_asks.specs.Asks.{HasAnswered, StopTold, limit_in, events_left}
 use Rattle.irq_base.specs.declared.event.Event.{Event}
