@@ -49,8 +49,8 @@ pub(crate) fn pass_of(
     }
 }
 
-// Puts the pass behind the others.
-fn push(passes: &mut Vec<Pass>, pass: Pass) -> Result<(), NoMemory>
+/// Puts the pass behind the others.
+pub(crate) fn push(passes: &mut Vec<Pass>, pass: Pass) -> Result<(), NoMemory>
     ensures { OnOk result (passes.new.items ≡ passes.old.items ++ pass ∷ []) }
 {
     match passes.push(pass) {
