@@ -62,12 +62,15 @@ fn run<R: Threads + Wait + Sync, G: Gate>(
     gate: &G,
 ) -> Result<Option<(Outcome, u64)>, AllocError> {
     let ran = came(rt, alloc, "run", script.to_vec(alloc)?, gate)?;
+    let outcome = ran.outcome;
+    let Some(entries) = ran.entries else {
+        return Ok(None);
+    };
     let transcript = ran.sink.bytes();
-    match ran.entries {
-        Some(entries)
-            if is_ended(alloc, transcript, ran.outcome, entries)?
-                && is_legal(rt, alloc, script, transcript)? => Ok(Some((ran.outcome, entries))),
-        _ => Ok(None),
+    if is_ended(alloc, transcript, outcome, entries)? && is_legal(rt, alloc, script, transcript)? {
+        Ok(Some((outcome, entries)))
+    } else {
+        Ok(None)
     }
 }
 
